@@ -1,0 +1,4 @@
+mod Exchange
+mod Exact
+mod Literals
+mod Agree
