@@ -14,11 +14,10 @@ pub enum Comparison {
     GreaterOrEqual,
 }
 
-// Whether x and y stand to each other as the comparison says.
-pub fn holds<T: Comparing>(comparison: Comparison, x: &T, y: &T) -> bool
-    ensures { λ r. ⌜ r ≡ satisfies comparison (order (now (x .entry)) (now (y .entry))) ⌝ }
+// Whether an answer is one that the comparison takes.
+pub fn satisfied(comparison: Comparison, order: Order) -> bool
+    ensures { λ r. ⌜ r ≡ satisfies comparison order ⌝ }
 {
-    let order = x.compare(y);
     match comparison {
         Comparison::Equals => matches!(order, Order::Equal),
         Comparison::Differs => !matches!(order, Order::Equal),
@@ -27,4 +26,11 @@ pub fn holds<T: Comparing>(comparison: Comparison, x: &T, y: &T) -> bool
         Comparison::Greater => matches!(order, Order::Greater),
         Comparison::GreaterOrEqual => matches!(order, Order::Greater | Order::Equal),
     }
+}
+
+// Whether x and y stand to each other as the comparison says.
+pub fn holds<T: Comparing>(comparison: Comparison, x: &T, y: &T) -> bool
+    ensures { λ r. ⌜ r ≡ satisfies comparison (order (now (x .entry)) (now (y .entry))) ⌝ }
+{
+    satisfied(comparison, x.compare(y))
 }

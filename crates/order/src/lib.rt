@@ -15,6 +15,7 @@ pub use basic::IntComparing;
 pub use basic::IntTotal;
 pub use comparison::Comparison;
 pub use comparison::holds;
+pub use comparison::satisfied;
 pub use optional::OptionComparing;
 pub use optional::OptionTotal;
 pub use sequence::compare_sequences;

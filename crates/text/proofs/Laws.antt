@@ -2,13 +2,14 @@
 use mathlib.Core.Path.{_≡_, refl, sym, ap, _∙_}
 use mathlib.Core.Bool.{Bool, true, false, cond}
 use mathlib.Core.List.{List, _++_, append-assoc}
-use Prim.Native.Nat.{ℕ, _+_, _≤_, _<_}
+use mathlib.Core.Logic.{inl, inr}
+use Prim.Native.Nat.{ℕ, _+_, _≤_, _<_, min}
 use native.Mathlib.Omega.{arith}
 use native.Mathlib.Nat.{add-assoc}
 use lib.ListN.{length, take, drop, length-append, length-take, length-drop}
 use lib.Seq.{take-append-le, take-take, take-at, drop-at, drop-drop, paste}
-use Rattle.std.proofs.shelf.Lists.{drop-take, length-take-le}
-use Rattle.std.proofs.shelf.Tests.{le-leb, lt-leb, and-parts, and-from}
+use Rattle.std.proofs.shelf.Lists.{drop-take, length-take-le, take-all, drop-all}
+use Rattle.std.proofs.shelf.Tests.{cases-lt, le-leb, lt-leb, and-parts, and-from}
 use Rattle.std.specs.declared.result.Result.the-variants.{Ok, Err}
 use Rattle.fault.specs.declared.Fault.the-variants.{BufferShort}
 use Rattle.text.specs.declared.span.Span.{Span}
@@ -54,6 +55,20 @@ laid-laid d x y at l =
     sym (drop-drop (length y) (at + length x) (laid d at x)) ∙ ap (drop (length y)) b ∙ drop-drop (length y) (at + length x) d
     ∙ ap (λ k. drop k d) (add-assoc at (length x) (length y) ∙ ap (λ k. at + k) (sym (length-append x y))) in
     ap (λ z. z ++ (y ++ drop (at + length x + length y) (laid d at x))) t ∙ ap (λ z. (take at d ++ x) ++ (y ++ z)) u ∙ simp append-assoc
+
+-- the first k elements, and the others, by a number that stops at the length
+module _ {A : Type 0} (xs : List A) (n k : ℕ) (e : n ≡ min (length xs) k) where
+  pub take-first : take n xs ≡ take k xs
+  take-first = elim (cases-lt k (length xs)) [
+    | inl l ↦ ap (λ m. take m xs) (omega arith)
+    | inr g ↦ take-all n xs (omega arith) ∙ sym (take-all k xs g)
+  ]
+
+  pub drop-first : drop n xs ≡ drop k xs
+  drop-first = elim (cases-lt k (length xs)) [
+    | inl l ↦ ap (λ m. drop m xs) (omega arith)
+    | inr g ↦ drop-all n xs (omega arith) ∙ sym (drop-all k xs g)
+  ]
 
 -- the two ways of a write
 pub stored-fits : (d x : List ℕ) (at : ℕ) → at + length x ≤ length d → stored d at x ≡ record { answer = Ok (span at (length x)); bytes = laid d at x }

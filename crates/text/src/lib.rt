@@ -15,4 +15,6 @@ pub use letters::letters_stand;
 pub use piece::Piece;
 pub use piece::Text;
 pub use piece::join;
+pub use piece::piece_len;
+pub use piece::text_bytes;
 pub use span::Span;

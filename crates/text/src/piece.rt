@@ -4,9 +4,10 @@ ghost use mathlib.Core.List.{_++_};
 ghost use Prim.Native.Nat.{_+_, _≤_};
 ghost use lib.ListN.{length};
 ghost use Rattle.text.specs.Buffers.{laid, stored};
-ghost use Rattle.text.specs.Pieces.{pieceBytes, Below};
+ghost use Rattle.text.specs.Pieces.{textBytes, pieceBytes, TextBelow, Below};
 use crate::buffer::copy_in;
 use crate::buffer::copy_up;
+use crate::buffer::part;
 use crate::span::Span;
 use fault::Fault;
 
@@ -24,7 +25,19 @@ pub enum Piece<'a> {
     Byte(u8),
 }
 
-pub(crate) fn size(work: &[u8], piece: Piece) -> usize
+// The bytes of a text.
+pub fn text_bytes<'a>(work: &'a [u8], text: Text<'a>) -> &'a [u8]
+    requires { ⌜ TextBelow (length (now work)) text ⌝ }
+    ensures { λ r. ⌜ now r ≡ textBytes (now (work .entry)) (text .entry) ⌝ }
+{
+    match text {
+        Text::Part(span) => part(work, span),
+        Text::Lent(bytes) => bytes,
+    }
+}
+
+// How many bytes a piece has.
+pub fn piece_len(work: &[u8], piece: Piece) -> usize
     requires { ⌜ Below (length (now work)) piece ⌝ }
     ensures { λ r. ⌜ r ≡ length (pieceBytes (now (work .entry)) (piece .entry)) ⌝ }
 {
@@ -65,8 +78,8 @@ pub fn join(work: &mut [u8], fill: usize, p: Piece, q: Piece) -> Result<Span, Fa
     ensures answer { λ r. ⌜ r ≡ stored (now (work .entry)) fill (pieceBytes (now (work .entry)) (p .entry) ++ pieceBytes (now (work .entry)) (q .entry)) .answer ⌝ }
     ensures bytes { λ _. ⌜ now (work .exit) ≡ stored (now (work .entry)) fill (pieceBytes (now (work .entry)) (p .entry) ++ pieceBytes (now (work .entry)) (q .entry)) .bytes ⌝ }
 {
-    let m = size(work, p);
-    let n = size(work, q);
+    let m = piece_len(work, p);
+    let n = piece_len(work, q);
     if m > work.len() - fill || n > work.len() - fill - m {
         return Err(Fault::BufferShort);
     }

@@ -29,9 +29,9 @@ pub returns : need.returns
 returns c =
     let d = c .args .work .now in
     let x = pieceBytes d (c .args .p) ++ pieceBytes d (c .args .q) in
-    let n : length x ≡ c .size-m .result + c .size-n .result = omega (arith, length-append (pieceBytes d (c .args .p)) (pieceBytes d (c .args .q))) in
+    let n : length x ≡ c .piece-len-m .result + c .piece-len-n .result = omega (arith, length-append (pieceBytes d (c .args .p)) (pieceBytes d (c .args .q))) in
     let e = stored-fits d x (c .args .fill) (omega arith) in
     record {
       answer = ap (λ (k : ℕ). Ok (span (c .args .fill) k)) (sym n) ∙ sym (ap (λ (s : Stored). s .answer) e);
-      bytes = laid-behind d _ _ (c .args .fill) (c .args .p) (c .args .q) (c .size-m .result) (c .size-m .ensures) (c .pre .right) (omega arith) (c .lay .ensures) (c .lay-2 .ensures) ∙ sym (ap (λ (s : Stored). s .bytes) e);
+      bytes = laid-behind d _ _ (c .args .fill) (c .args .p) (c .args .q) (c .piece-len-m .result) (c .piece-len-m .ensures) (c .pre .right) (omega arith) (c .lay .ensures) (c .lay-2 .ensures) ∙ sym (ap (λ (s : Stored). s .bytes) e);
     }

@@ -1,0 +1,3 @@
+pub mod Routines
+pub mod Rows
+pub mod Table
