@@ -3,7 +3,7 @@ use mathlib.Core.Path.{_≡_, refl, sym, ap, _∙_}
 use mathlib.Core.Bool.{Bool, true, false, cond}
 use mathlib.Core.List.{List, _++_, append-assoc}
 use mathlib.Core.Logic.{inl, inr}
-use Prim.Native.Nat.{ℕ, _+_, _≤_, _<_, min}
+use Prim.Native.Nat.{ℕ, _+_, _-_, _≤_, _<_, min}
 use native.Mathlib.Omega.{arith}
 use native.Mathlib.Nat.{add-assoc}
 use lib.ListN.{length, take, drop, length-append, length-take, length-drop}
@@ -44,13 +44,25 @@ span-new d x at l =
     ap (take (length x)) (drop-at (take at d) (x ++ drop (at + length x) d) at (length-take-le at d l))
     ∙ take-at x (drop (at + length x) d) (length x) refl
 
+-- what stands behind it stays
+drop-end : (d x : List ℕ) (at : ℕ) → at ≤ length d → drop (at + length x) (laid d at x) ≡ drop (at + length x) d
+drop-end d x at l =
+    let n : length (take at d ++ x) ≡ at + length x = simp (length-append, length-take) (omega arith) in
+    ap (drop (at + length x)) (sym (append-assoc (take at d) x (drop (at + length x) d))) ∙ drop-at (take at d ++ x) (drop (at + length x) d) (at + length x) n
+
+pub drop-laid : (d x : List ℕ) (at n : ℕ) → at + length x ≤ n → at ≤ length d → drop n (laid d at x) ≡ drop n d
+drop-laid d x at n h l =
+    let e : (at + length x) + (n - (at + length x)) ≡ n = omega arith in
+    ap (λ m. drop m (laid d at x)) (sym e) ∙ sym (drop-drop (n - (at + length x)) (at + length x) (laid d at x)) ∙ ap (drop (n - (at + length x))) (drop-end d x at l)
+    ∙ drop-drop (n - (at + length x)) (at + length x) d ∙ ap (λ m. drop m d) e
+
 -- one text behind another
 pub laid-laid : (d x y : List ℕ) (at : ℕ) → at + length x ≤ length d → laid (laid d at x) (at + length x) y ≡ laid d at (x ++ y)
 laid-laid d x y at l =
     let r = drop (at + length x) d in
     let n : length (take at d ++ x) ≡ at + length x = simp (length-append, length-take) (omega arith) in
     let t : take (at + length x) (laid d at x) ≡ take at d ++ x = ap (take (at + length x)) (sym (append-assoc (take at d) x r)) ∙ take-at (take at d ++ x) r (at + length x) n in
-    let b : drop (at + length x) (laid d at x) ≡ r = ap (drop (at + length x)) (sym (append-assoc (take at d) x r)) ∙ drop-at (take at d ++ x) r (at + length x) n in
+    let b : drop (at + length x) (laid d at x) ≡ r = drop-end d x at (omega arith) in
     let u : drop (at + length x + length y) (laid d at x) ≡ drop (at + length (x ++ y)) d =
     sym (drop-drop (length y) (at + length x) (laid d at x)) ∙ ap (drop (length y)) b ∙ drop-drop (length y) (at + length x) d
     ∙ ap (λ k. drop k d) (add-assoc at (length x) (length y) ∙ ap (λ k. at + k) (sym (length-append x y))) in

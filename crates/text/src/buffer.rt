@@ -16,7 +16,7 @@ pub fn part(buffer: &[u8], span: Span) -> &[u8]
 }
 
 // Copies the text, which has room.
-pub(crate) fn copy_in(buffer: &mut [u8], place: usize, text: &[u8])
+pub fn copy_in(buffer: &mut [u8], place: usize, text: &[u8])
     requires { ⌜ place + length (now text) ≤ length (now buffer) ⌝ }
     ensures { λ _. ⌜ now (buffer .exit) ≡ laid (now (buffer .entry)) place (now (text .entry)) ⌝ }
 {

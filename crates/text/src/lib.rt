@@ -4,6 +4,7 @@ pub mod letters;
 pub mod piece;
 pub mod span;
 
+pub use buffer::copy_in;
 pub use buffer::part;
 pub use buffer::write_text;
 pub use letters::compare_char_text;

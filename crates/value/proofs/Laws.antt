@@ -5,12 +5,13 @@ use mathlib.Core.Bool.{Bool, true, _&&_}
 use mathlib.Core.List.{List, [], _∷_}
 use Prim.Native.Nat.{ℕ, zero, suc}
 use native.Mathlib.Omega.{arith}
+use Rattle.std.specs.Options.{mapped}
 use Rattle.std.specs.shelf.Maps.{nth}
 use Rattle.std.specs.declared.option.Option.the-variants.{Some, None}
 use Rattle.std.proofs.shelf.Tests.{and-parts}
 use Rattle.value.specs.Kinds.{kinds, kindNumber}
 use Rattle.value.specs.Ops.{ops, opNumber}
-use Rattle.value.specs.Values.{Meaning, kindIn, meaning, kindOf}
+use Rattle.value.specs.Values.{Meaning, str, blob, kindIn, textOf, meaning, kindOf, textIn, withText}
 use Rattle.value.specs.declared.value.Value.{Value}
 use Rattle.value.specs.declared.value.Value.the-variants as value
 use Rattle.value.specs.declared.kind.Kind.{Kind}
@@ -78,3 +79,37 @@ kind-meaning f (value.Str t) = refl
 kind-meaning f (value.Blob t) = refl
 kind-meaning f (value.Excl r) = refl
 kind-meaning f (value.Incl r) = refl
+
+-- a value with another text means the same where the texts have the same bytes
+pub meaning-with : {T U : Type 0} (f : T → List ℕ) (g : U → List ℕ) (v : Value T) (u : U) → ((t : T) → textIn v ≡ Some t → g u ≡ f t) → meaning g (withText v u) ≡ meaning f v
+meaning-with f g value.Unit u h = refl
+meaning-with f g (value.Bool b) u h = refl
+meaning-with f g (value.Int n) u h = refl
+meaning-with f g (value.Float x) u h = refl
+meaning-with f g (value.Char c) u h = refl
+meaning-with f g (value.Str t) u h = ap str (h t refl)
+meaning-with f g (value.Blob t) u h = ap blob (h t refl)
+meaning-with f g (value.Excl r) u h = refl
+meaning-with f g (value.Incl r) u h = refl
+
+pub text-with : {T U : Type 0} (v : Value T) (u : U) → textIn (withText v u) ≡ mapped (λ _. u) (textIn v)
+text-with value.Unit u = refl
+text-with (value.Bool b) u = refl
+text-with (value.Int n) u = refl
+text-with (value.Float x) u = refl
+text-with (value.Char c) u = refl
+text-with (value.Str t) u = refl
+text-with (value.Blob t) u = refl
+text-with (value.Excl r) u = refl
+text-with (value.Incl r) u = refl
+
+pub text-meaning : {T : Type 0} (f : T → List ℕ) (v : Value T) → textOf (meaning f v) ≡ mapped f (textIn v)
+text-meaning f value.Unit = refl
+text-meaning f (value.Bool b) = refl
+text-meaning f (value.Int n) = refl
+text-meaning f (value.Float x) = refl
+text-meaning f (value.Char c) = refl
+text-meaning f (value.Str t) = refl
+text-meaning f (value.Blob t) = refl
+text-meaning f (value.Excl r) = refl
+text-meaning f (value.Incl r) = refl
