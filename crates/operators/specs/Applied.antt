@@ -58,11 +58,6 @@ filled fill (Ok (New v)) = behind fill (textIn v)
 abbrev pub given : Value Span → Value Span → Result Made Fault → Result (Value Span) Fault
 given a b o = bind o (λ made. Ok (picked a b made))
 
--- the left operand after an assignment that comes to o
-abbrev pub leftAfter : Value Span → Value Span → Result Made Fault → Value Span
-leftAfter a b (Err f) = a
-leftAfter a b (Ok made) = picked a b made
-
 -- ---- APPLY and its assigning form, on any values: the operands are tested first, and the first 65,536 bytes of the buffer
 -- are for the new text
 

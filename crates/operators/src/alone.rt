@@ -7,6 +7,7 @@ ghost use denote.Ref.{now as bytes};
 ghost use Rattle.value.specs.Values.{meaning, wellFormed};
 ghost use Rattle.routines.specs.Outcomes.{operand, Ready};
 ghost use Rattle.operators.specs.Applied.{applied, appliedAssign, tried, Alone};
+ghost use Rattle.operators.specs.Listed.{Apply-as-selected};
 use crate::operate::operate;
 use crate::operate::operate_assign;
 use fault::Fault;
@@ -40,7 +41,8 @@ fn are_well_formed(left: Value<&[u8]>, right: Value<&[u8]>) -> bool
 }
 
 pub fn apply(op: Op, left: Value<&[u8]>, right: Value<&[u8]>, limits: Limits, buffer: &mut [u8]) -> Result<Made, Fault>
-    ensures { λ r. ⌜ Alone (now (buffer .entry)) (tried (meaning bytes (left .entry)) (meaning bytes (right .entry)) (applied limits op (meaning bytes (left .entry)) (meaning bytes (right .entry)))) r (now (buffer .exit)) ⌝ }
+    ensures alone { λ r. ⌜ Alone (now (buffer .entry)) (tried (meaning bytes (left .entry)) (meaning bytes (right .entry)) (applied limits op (meaning bytes (left .entry)) (meaning bytes (right .entry)))) r (now (buffer .exit)) ⌝ }
+    ensures listed { λ _. ⌜ Apply-as-selected ⌝ }
 {
     if !are_well_formed(left, right) {
         return Err(Fault::Malformed);
@@ -51,7 +53,8 @@ pub fn apply(op: Op, left: Value<&[u8]>, right: Value<&[u8]>, limits: Limits, bu
 
 // The left operand after the assignment, which is given back where nothing was added to it.
 pub fn apply_assign(op: Op, left: Value<&[u8]>, right: Value<&[u8]>, limits: Limits, buffer: &mut [u8]) -> Result<Made, Fault>
-    ensures { λ r. ⌜ Alone (now (buffer .entry)) (tried (meaning bytes (left .entry)) (meaning bytes (right .entry)) (appliedAssign limits op (meaning bytes (left .entry)) (meaning bytes (right .entry)))) r (now (buffer .exit)) ⌝ }
+    ensures alone { λ r. ⌜ Alone (now (buffer .entry)) (tried (meaning bytes (left .entry)) (meaning bytes (right .entry)) (appliedAssign limits op (meaning bytes (left .entry)) (meaning bytes (right .entry)))) r (now (buffer .exit)) ⌝ }
+    ensures listed { λ _. ⌜ Apply-as-selected ⌝ }
 {
     if !are_well_formed(left, right) {
         return Err(Fault::Malformed);

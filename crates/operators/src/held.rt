@@ -6,8 +6,9 @@ ghost use lib.ListN.{length};
 ghost use Rattle.std.specs.declared.result.Result.the-variants.{Ok};
 ghost use Rattle.fault.specs.Refusals.{bind};
 ghost use Rattle.value.specs.Values.{meant};
-ghost use Rattle.routines.specs.Outcomes.{operand, Ready, settled};
-ghost use Rattle.operators.specs.Applied.{applied, appliedAssign, Held, picked, filled, given, leftAfter};
+ghost use Rattle.routines.specs.Outcomes.{operand, Ready};
+ghost use Rattle.operators.specs.Applied.{Held, picked, filled};
+ghost use Rattle.operators.specs.Rooms.{room, appliedIn, assignedIn, Gives};
 use routines::Limits;
 use routines::Made;
 use routines::Operand;
@@ -60,9 +61,8 @@ pub fn apply_held(op: Op, a: Value<Span>, b: Value<Span>, limits: Limits, work: 
     requires left { ⌜ Held (now work) (now fill) a ⌝ }
     requires right { ⌜ Held (now work) (now fill) b ⌝ }
     requires inside { ⌜ now fill ≤ length (now work) ⌝ }
-    ensures answer { λ r. ⌜ r ≡ given a b (settled (now (work .entry)) (now (fill .entry)) (applied limits op (meant (now (work .entry)) a) (meant (now (work .entry)) b)) .answer) ⌝ }
-    ensures bytes { λ _. ⌜ now (work .exit) ≡ settled (now (work .entry)) (now (fill .entry)) (applied limits op (meant (now (work .entry)) a) (meant (now (work .entry)) b)) .bytes ⌝ }
-    ensures next { λ _. ⌜ now (fill .exit) ≡ filled (now (fill .entry)) (settled (now (work .entry)) (now (fill .entry)) (applied limits op (meant (now (work .entry)) a) (meant (now (work .entry)) b)) .answer) ⌝ }
+    requires short { ⌜ length (now work) ≤ 65536 ⌝ }
+    ensures { λ r. ⌜ Gives (now (work .entry)) (now (fill .entry)) (appliedIn limits op (room (now (fill .entry)) (now (work .entry))) (meant (now (work .entry)) a) (meant (now (work .entry)) b)) r (now (work .exit)) (now (fill .exit)) ⌝ }
 {
     let made = operate(op, as_operand(a), as_operand(b), limits, work, *fill)?;
     *fill = end_of(made, *fill);
@@ -74,10 +74,8 @@ pub fn assign_held(op: Op, left: &mut Value<Span>, right: Value<Span>, limits: L
     requires left { ⌜ Held (now work) (now fill) (now left) ⌝ }
     requires right { ⌜ Held (now work) (now fill) right ⌝ }
     requires inside { ⌜ now fill ≤ length (now work) ⌝ }
-    ensures answer { λ r. ⌜ r ≡ bind (settled (now (work .entry)) (now (fill .entry)) (appliedAssign limits op (meant (now (work .entry)) (now (left .entry))) (meant (now (work .entry)) right)) .answer) (λ _. Ok tt) ⌝ }
-    ensures left { λ _. ⌜ now (left .exit) ≡ leftAfter (now (left .entry)) right (settled (now (work .entry)) (now (fill .entry)) (appliedAssign limits op (meant (now (work .entry)) (now (left .entry))) (meant (now (work .entry)) right)) .answer) ⌝ }
-    ensures bytes { λ _. ⌜ now (work .exit) ≡ settled (now (work .entry)) (now (fill .entry)) (appliedAssign limits op (meant (now (work .entry)) (now (left .entry))) (meant (now (work .entry)) right)) .bytes ⌝ }
-    ensures next { λ _. ⌜ now (fill .exit) ≡ filled (now (fill .entry)) (settled (now (work .entry)) (now (fill .entry)) (appliedAssign limits op (meant (now (work .entry)) (now (left .entry))) (meant (now (work .entry)) right)) .answer) ⌝ }
+    requires short { ⌜ length (now work) ≤ 65536 ⌝ }
+    ensures { λ r. ⌜ Gives (now (work .entry)) (now (fill .entry)) (assignedIn limits op (room (now (fill .entry)) (now (work .entry))) (meant (now (work .entry)) (now (left .entry))) (meant (now (work .entry)) right)) (bind r (λ _. Ok (now (left .exit)))) (now (work .exit)) (now (fill .exit)) ⌝ }
 {
     let made = operate_assign(op, as_operand(*left), as_operand(right), limits, work, *fill)?;
     *fill = end_of(made, *fill);

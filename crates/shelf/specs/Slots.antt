@@ -2,6 +2,9 @@
 use mathlib.Core.Bool.{Bool, true, _&&_}
 use mathlib.Core.List.{List, [], _∷_}
 use Prim.Native.Nat.{ℕ}
+use Rattle.std.specs.Options.{mapped}
+use Rattle.std.specs.shelf.Maps.{nth}
+use Rattle.std.specs.declared.option.Option.{Option}
 use Rattle.value.specs.Values.{Meaning, wellFormed}
 use Rattle.shelf.specs.declared.mark.Mark.{Mark}
 
@@ -16,3 +19,7 @@ slot m n k = record { holds = m; capacity = n; mark = k }
 abbrev pub allFormed : List Slot → Bool
 allFormed [] = true
 allFormed (s ∷ ss) = wellFormed (s .holds) && allFormed ss
+
+-- the value of each slot, by its number
+abbrev pub holding : List Slot → ℕ → Option Meaning
+holding slots i = mapped (λ s. s .holds) (nth slots i)

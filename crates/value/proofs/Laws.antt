@@ -8,8 +8,8 @@ use native.Mathlib.Omega.{arith}
 use Rattle.std.specs.Options.{mapped}
 use Rattle.std.specs.shelf.Maps.{nth}
 use Rattle.std.specs.declared.option.Option.the-variants.{Some, None}
-use Rattle.std.proofs.shelf.Tests.{and-parts}
-use Rattle.value.specs.Kinds.{kinds, kindNumber}
+use Rattle.std.proofs.shelf.Tests.{and-parts, eqb-true}
+use Rattle.value.specs.Kinds.{kinds, kindNumber, isKind}
 use Rattle.value.specs.Ops.{ops, opNumber}
 use Rattle.value.specs.Values.{Meaning, str, blob, kindIn, textOf, meaning, kindOf, textIn, withText}
 use Rattle.value.specs.declared.value.Value.{Value}
@@ -66,6 +66,10 @@ every-kind p h k = every-at p kinds (kindNumber k) k h (kind-listed k)
 
 pub every-op : (p : Op → Bool) → every p ops ≡ true → (o : Op) → p o ≡ true
 every-op p h o = every-at p ops (opNumber o) o h (op-listed o)
+
+-- kinds with the same number are the same
+pub is-kind : (j k : Kind) → isKind j k ≡ true → j ≡ k
+is-kind j k h = let q : Some j ≡ Some k = sym (kind-listed j) ∙ ap (nth kinds) (eqb-true (kindNumber j) (kindNumber k) h) ∙ kind-listed k in cc
 
 -- ---- values and what they mean
 

@@ -1,0 +1,3 @@
+mod Gathers
+mod Fresh
+mod Outcomes
