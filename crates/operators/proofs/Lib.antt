@@ -1,6 +1,6 @@
 pub mod Laws
 mod FirstBytes
 mod Serving
-mod Selecting
+pub mod Selecting
 mod Rowed
 pub mod Roomed

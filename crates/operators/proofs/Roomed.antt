@@ -50,7 +50,7 @@ meant-as work work′ fill (value.Blob s) e h = ap blob (span-as work work′ fi
 meant-as work work′ fill (value.Excl r) e h = refl
 meant-as work work′ fill (value.Incl r) e h = refl
 
-inside-more : (fill fill′ : ℕ) (o : Option Span) → fill ≤ fill′ → Inside fill o → Inside fill′ o
+pub inside-more : (fill fill′ : ℕ) (o : Option Span) → fill ≤ fill′ → Inside fill o → Inside fill′ o
 inside-more fill fill′ None h i = tt
 inside-more fill fill′ (Some s) h i = omega arith
 

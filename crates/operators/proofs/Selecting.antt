@@ -51,7 +51,7 @@ use Rattle.operators.specs.Applied.{inRow}
 use Rattle.operators.specs.Listed.{InRow, spelled, Listed, Apply-as-selected}
 
 -- a value that is well formed is well spelled
-well-spelled : (m : Meaning) → wellFormed m ≡ true → spelled m ≡ true
+pub well-spelled : (m : Meaning) → wellFormed m ≡ true → spelled m ≡ true
 well-spelled unit w = refl
 well-spelled (bool b) w = refl
 well-spelled (int n) w = refl

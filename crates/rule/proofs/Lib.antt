@@ -1,3 +1,8 @@
 mod Gathers
 mod Fresh
 mod Outcomes
+mod Loads
+mod Framed
+mod Adding
+mod Advancing
+mod Walking

@@ -1,2 +1,4 @@
 pub mod Sets
 pub mod Check
+pub mod Run
+pub mod Rules
