@@ -3,7 +3,7 @@ use mathlib.Core.Path.{_≡_, refl, sym, ap, subst, _∙_}
 use mathlib.Core.Bool.{Bool, true, false, cond, _&&_, _||_}
 use mathlib.Core.List.{List, _++_}
 use mathlib.Core.Logic.{⊎-elim}
-use Prim.Native.Nat.{ℕ}
+use Prim.Native.Nat.{ℕ, _≤_}
 use native.Mathlib.Omega.{arith}
 use lib.Dec.{eqb, ltb}
 use lib.IntN.{ℤ, pos, negsuc}
@@ -77,27 +77,27 @@ letters-utf8 (incl y z) x h w e = absurd (false≢true h)
 joined-utf8 : (a b : Meaning) (x y : List ℕ) → isLetters (kindIn a) ≡ true → isLetters (kindIn b) ≡ true → asBytes a ≡ Ok x → asBytes b ≡ Ok y → wellFormed a ≡ true → wellFormed b ≡ true → utf8 (x ++ y) ≡ true
 joined-utf8 a b x y p q e d v w = utf8-decides (x ++ y) .1 (utf8-append x y (letters-utf8 a x p v e) (letters-utf8 b y q w d))
 
--- a result that is not refused for want of a row
+-- a result that is refused with a number from 6 to 10, if at all
 abbrev pub Rowful : {A : Type 0} → Result A Fault → Type 0
 Rowful (Ok a) = Unit {0}
-Rowful (Err f) = number f ≡ number NoRow → ⊥
+Rowful (Err f) = (6 ≤ number f) × (number f ≤ 10)
 
 rowful-cond : {A : Type 0} (t : Bool) (o p : Result A Fault) → Rowful o → Rowful p → Rowful (cond t o p)
 rowful-cond t o p h k = cond-both t o p Rowful (λ _. h) (λ _. k)
 
-rowful-unless : {A : Type 0} (t : Bool) (f : Fault) (x : A) → (number f ≡ number NoRow → ⊥) → Rowful (unless t f x)
+rowful-unless : {A : Type 0} (t : Bool) (f : Fault) (x : A) → ((6 ≤ number f) × (number f ≤ 10)) → Rowful (unless t f x)
 rowful-unless t f x h = rowful-cond t (Ok x) (Err f) tt h
 
 rowful-power : (x y : ℤ) → Rowful (powerOf x y)
-rowful-power x (pos n) = rowful-cond (ltb 4294967295 n) (Err Overflow) _ (λ e. omega arith) (rowful-unless _ Overflow _ (λ e. omega arith))
-rowful-power x (negsuc n) = λ e. omega arith
+rowful-power x (pos n) = rowful-cond (ltb 4294967295 n) (Err Overflow) _ (omega arith, omega arith) (rowful-unless _ Overflow _ (omega arith, omega arith))
+rowful-power x (negsuc n) = (omega arith, omega arith)
 
 pub rowful-computed : (f : Arithmetic) (x y : ℤ) → Rowful (computed f x y)
-rowful-computed whole.Add x y = rowful-unless _ Overflow _ (λ e. omega arith)
-rowful-computed whole.Subtract x y = rowful-unless _ Overflow _ (λ e. omega arith)
-rowful-computed whole.Multiply x y = rowful-unless _ Overflow _ (λ e. omega arith)
-rowful-computed whole.Divide x y = rowful-cond (isZero y) (Err ZeroDivisor) _ (λ e. omega arith) (rowful-unless _ Overflow _ (λ e. omega arith))
-rowful-computed whole.Modulo x y = rowful-cond (isZero y) (Err Remainder) _ (λ e. omega arith) (rowful-unless _ Remainder _ (λ e. omega arith))
+rowful-computed whole.Add x y = rowful-unless _ Overflow _ (omega arith, omega arith)
+rowful-computed whole.Subtract x y = rowful-unless _ Overflow _ (omega arith, omega arith)
+rowful-computed whole.Multiply x y = rowful-unless _ Overflow _ (omega arith, omega arith)
+rowful-computed whole.Divide x y = rowful-cond (isZero y) (Err ZeroDivisor) _ (omega arith, omega arith) (rowful-unless _ Overflow _ (omega arith, omega arith))
+rowful-computed whole.Modulo x y = rowful-cond (isZero y) (Err Remainder) _ (omega arith, omega arith) (rowful-unless _ Remainder _ (omega arith, omega arith))
 rowful-computed whole.Power x y = rowful-power x y
 rowful-computed whole.ShiftLeft x y = tt
 rowful-computed whole.ShiftRight x y = tt
@@ -128,7 +128,7 @@ module _ (s : KindSet) (a b : Meaning) where
   in-chosen t c d bs h k = cond-both t c d (λ x. InRow s a b (chosen x bs)) (λ _. h) (λ _. k)
 
   in-grown : (limit : ℕ) (k : TextKind) (bs : List ℕ) → has s (kindIn (typed k bs)) ≡ true → (wellFormed a ≡ true → wellFormed b ≡ true → spelled (typed k bs) ≡ true) → InRow s a b (grown limit k bs)
-  in-grown limit k bs h f = cond-both (allowed limit (length bs)) _ _ (InRow s a b) (λ _. (h, f)) (λ _ e. omega arith)
+  in-grown limit k bs h f = cond-both (allowed limit (length bs)) _ _ (InRow s a b) (λ _. (h, f)) (λ _. (omega arith, omega arith))
 
 
 other-bytes : (m : Meaning) → (isKind (kindIn m) kind.Int || isLetters (kindIn m)) ≡ true → isOk (asBytes m) ≡ true
@@ -222,7 +222,7 @@ module _ (l : Limits) (a b : Meaning) where
       let p = and-parts _ (isKind (kindIn b) kind.Blob) h in
       let here = listed kind.Blob a (p .0) in
       in-of _ a b asBytes _ (blob-bytes a (p .0)) (blob-bytes b (p .1)) (λ x y _ _.
-        in-chosen _ a b (eqb (length y) 0) _ _ (x ++ y) (in-chosen _ a b (allowed (l .blob) (length x)) Left Refuse (x ++ y) (in-left _ a b here) (λ q. omega arith)) (in-grown _ a b _ BlobText (x ++ y) refl (λ _ _. refl)))
+        in-chosen _ a b (eqb (length y) 0) _ _ (x ++ y) (in-chosen _ a b (allowed (l .blob) (length x)) Left Refuse (x ++ y) (in-left _ a b here) (omega arith, omega arith)) (in-grown _ a b _ BlobText (x ++ y) refl (λ _ _. refl)))
   assigned-in assign.BlobByOther h =
       let p = and-parts _ (isKind (kindIn b) kind.Int || isLetters (kindIn b)) h in
       in-of _ a b asBytes _ (blob-bytes a (p .0)) (other-bytes b (p .1)) (λ x y _ _. in-append _ BlobText _ x y (listed kind.Blob a (p .0)) refl (λ _ _. refl))

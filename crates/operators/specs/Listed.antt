@@ -1,15 +1,14 @@
 -- SELECT speaks for APPLY: where it refuses, the operator refuses alike; where it gives a set of kinds, the operator's value is
--- of one of them, or it is refused for another reason than a missing row. The value is spelled as a value has to be: a char is a
+-- of one of them, or it is refused with a number from 6 to 10. The value is spelled as a value has to be: a char is a
 -- scalar, a str is UTF-8. Assumes nothing.
 use mathlib.Core.Path.{_≡_}
-use mathlib.Core.Bool.{Bool, true, false}
-use Prim.Native.Nat.{ℕ}
+use mathlib.Core.Bool.{Bool, true}
+use Prim.Native.Nat.{_≤_}
 use lib.Utf8.{scalar}
 use Rattle.std.specs.declared.result.Result.{Result}
 use Rattle.std.specs.declared.result.Result.the-variants.{Ok, Err}
 use Rattle.fault.specs.Refusals.{number}
 use Rattle.fault.specs.declared.Fault.{Fault}
-use Rattle.fault.specs.declared.Fault.the-variants.{NoRow}
 use Rattle.text.specs.Scalars.{utf8}
 use Rattle.value.specs.Kinds.{has}
 use Rattle.value.specs.Values.{Meaning, unit, bool, int, float, char, str, blob, excl, incl, kindIn, wellFormed}
@@ -40,7 +39,7 @@ spelled (incl a b) = true
 -- what comes of a row that lists the kinds s
 abbrev pub InRow : KindSet → Meaning → Meaning → Result Given Fault → Type 0
 InRow s a b (Ok g) = (has s (kindIn (valueOf a b g)) ≡ true) × (wellFormed a ≡ true → wellFormed b ≡ true → spelled (valueOf a b g) ≡ true)
-InRow s a b (Err f) = number f ≡ number NoRow → ⊥
+InRow s a b (Err f) = (6 ≤ number f) × (number f ≤ 10)
 
 abbrev pub Listed : Result KindSet Fault → Meaning → Meaning → Result Given Fault → Type 0
 Listed (Ok s) a b given = InRow s a b given

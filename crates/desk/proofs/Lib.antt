@@ -1,0 +1,9 @@
+mod Uniting
+mod Typed
+mod Sound
+mod Staleness
+mod Postings
+mod Checks
+mod Runs
+mod Serving
+mod Lives
