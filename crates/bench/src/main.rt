@@ -1,5 +1,7 @@
 // Measures the operators and the walk of a rule. Given a count, it does each so often and prints nanoseconds for one; without, it
 // does nothing.
+#![tactic(auto)]
+
 mod rules;
 mod tasks;
 

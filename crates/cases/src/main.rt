@@ -1,4 +1,6 @@
 // Replays operator cases: each line is one call of APPLY or of its assigning form, and is answered with the value or the refusal.
+#![tactic(auto)]
+
 mod case;
 mod judge;
 

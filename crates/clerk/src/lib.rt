@@ -1,2 +1,4 @@
 // A desk that answers lines.
+#![tactic(auto)]
+
 pub mod clerk;

@@ -1,4 +1,6 @@
 // Tests at the edges: limits of size, room in a buffer, and the longest texts. There is no code here but tests.
+#![tactic(auto)]
+
 #[cfg(test)]
 mod tests {
     use desk::{Call, Reply, session};

@@ -1,4 +1,6 @@
 // Why a call is refused, and at which place.
+#![tactic(auto)]
+
 ghost use Rattle.std.specs.Prelude.{◌≡◌};
 ghost use Rattle.fault.specs.Refusals.{number, placed_at, refusal};
 

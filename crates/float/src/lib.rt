@@ -1,4 +1,6 @@
 // Floats: the five operations of IEEE 754, an int beside a float, and comparing with a tolerance.
+#![tactic(auto)]
+
 pub mod arithmetic;
 pub mod compare;
 pub mod laws;

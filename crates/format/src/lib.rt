@@ -1,4 +1,6 @@
 // The format of values: how they are written, and reading them back.
+#![tactic(auto)]
+
 pub mod cuts;
 pub mod hexadecimal;
 pub mod names;

@@ -1,4 +1,6 @@
 // Lines of any bytes, each handed on as soon as its end has come, in constant memory.
+#![tactic(auto)]
+
 pub mod begun;
 pub mod reading;
 

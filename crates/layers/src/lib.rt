@@ -1,4 +1,6 @@
 // Shelves made of other shelves: one with every slot sealed, and two joined end to end.
+#![tactic(auto)]
+
 pub mod joined;
 pub mod sealed;
 

@@ -1,4 +1,6 @@
 // The program's lines: one call each, or a refusal.
+#![tactic(auto)]
+
 pub mod answers;
 pub mod command;
 pub mod commands;

@@ -1,4 +1,6 @@
 // Reads lines, each a call on a shelf and a rule, and answers each with a line.
+#![tactic(auto)]
+
 use clerk::clerk::Clerk;
 use input::serve;
 use std::io;

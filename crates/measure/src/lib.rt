@@ -1,4 +1,6 @@
 // The functions that a measuring program in C calls: SELECT and COMPARE, on numbers and floats.
+#![tactic(auto)]
+
 ghost use Rattle.std.specs.Prelude.{◌≡◌, pos};
 ghost use Rattle.order.specs.Orders.{order_number};
 ghost use Rattle.float.specs.Tolerance.{by_float};

@@ -1,4 +1,6 @@
 // The operators: APPLY and its assigning form on any values, and both in a run.
+#![tactic(auto)]
+
 pub mod alone;
 pub mod held;
 pub mod operate;

@@ -30,7 +30,7 @@ pub fn satisfied(comparison: Comparison, order: Order) -> bool
 
 // Whether x and y stand to each other as the comparison says.
 pub fn holds<T: Comparing>(comparison: Comparison, x: &T, y: &T) -> bool
-    ensures { result ≡ satisfies comparison (order x.now y.now) }
+    ensures { result ≡ satisfies comparison (T.order x.now y.now) }
 {
     satisfied(comparison, x.compare(y))
 }

@@ -1,4 +1,6 @@
 // Orders of values: what comparing answers, total orders over it, the six comparisons, and the order of sequences.
+#![tactic(auto)]
+
 pub mod basic;
 pub mod comparison;
 pub mod optional;

@@ -1,4 +1,6 @@
 // Piles of shelves at a desk: calls on both sides of every seam, behind the last slot, and on sealed slots.
+#![tactic(auto)]
+
 mod hold;
 mod wide;
 

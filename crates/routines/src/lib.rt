@@ -1,4 +1,6 @@
 // The routines that rows name: what rhai's operators do, on operands whose texts are lent or in a work buffer.
+#![tactic(auto)]
+
 pub mod calls;
 pub mod concat;
 pub mod made;

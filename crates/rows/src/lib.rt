@@ -1,5 +1,7 @@
 // The rows: which routine an operator has for two kinds, and which kinds it can give. This is rhai's `builtin.rs` without the
 // routines themselves, which are in the crate `routines`.
+#![tactic(auto)]
+
 pub mod assign;
 pub mod binary;
 pub mod choice;

@@ -1,4 +1,6 @@
 // Rules: steps that are checked once and run often.
+#![tactic(auto)]
+
 pub mod calls;
 pub mod checking;
 pub mod rule;

@@ -1,4 +1,6 @@
 // Runs each session of data/ from the beginning, twice: whole, and in parts of three bytes, which cut lines at every place.
+#![tactic(auto)]
+
 use clerk::clerk::Clerk;
 use input::serve;
 use std::io::BufWriter;

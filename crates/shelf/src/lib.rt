@@ -1,4 +1,6 @@
 // What every shelf is: a fixed count of slots, each with a value, a capacity and a mark, and six calls on them.
+#![tactic(auto)]
+
 ghost use Rattle.std.specs.Prelude.{◌≡◌, true, List, length};
 ghost use Rattle.value.specs.Values.{meaning};
 ghost use Rattle.shelf.specs.Slots.{Slot, all_formed};

@@ -1,4 +1,6 @@
 // Values and answers, as they are printed.
+#![tactic(auto)]
+
 pub mod answer;
 pub mod digits;
 pub mod values;

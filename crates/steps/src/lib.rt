@@ -1,4 +1,6 @@
 // The steps of a rule, and the frame that a walk over them works in.
+#![tactic(auto)]
+
 pub mod frame;
 pub mod frames;
 pub mod step;

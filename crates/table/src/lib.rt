@@ -1,4 +1,6 @@
 // The table shelf: its slots are records that the caller lends, all open, with one capacity.
+#![tactic(auto)]
+
 pub mod calls;
 pub mod make;
 pub mod record;

@@ -1,4 +1,6 @@
 // Texts as bytes in buffers: parts of a buffer, writing one text behind another, UTF-8, and the order of texts.
+#![tactic(auto)]
+
 pub mod buffer;
 pub mod letters;
 pub mod piece;

@@ -1,4 +1,6 @@
 // Kinds, sets of kinds, operators, and values with their texts.
+#![tactic(auto)]
+
 pub mod kind;
 pub mod op;
 pub mod set;

@@ -1,4 +1,6 @@
 // Whole numbers of 64 bits with sign: rhai's integer functions, under its names.
+#![tactic(auto)]
+
 pub mod arithmetic;
 pub mod operation;
 pub mod shifts;

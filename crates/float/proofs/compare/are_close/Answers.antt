@@ -3,4 +3,4 @@ use Rattle.float.proofs.Literals.{epsilon_bits}
 use Rattle.float.proofs.compare.are_close.Goals as goal
 
 pub returns : goal.returns
-returns c = rw (epsilon_bits, c.abs.ensures.value, c.find-divisor.ensures) refl
+returns c = rw (epsilon_bits, c.abs.ensures.value, c.find_divisor.ensures) refl

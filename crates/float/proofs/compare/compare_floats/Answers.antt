@@ -10,7 +10,7 @@ pub returns : goal.returns
 returns c =
     let x = c.args.x in
     let y = c.args.y in
-    let v = c.order-floats.ensures in
+    let v = c.order_floats.ensures in
     let f : T (fits binary64 x) = search rules in
     let g : T (fits binary64 y) = search rules in
     record { value = v; exact = subst (Exact x y) (sym v) (exact x y f g); agrees = subst (Agrees x y) (sym v) (float_agrees x y) }

@@ -3,15 +3,15 @@ use Rattle.format.specs.Written.{figure}
 use Rattle.format.proofs.Hex.{bits_more, bits_fit, bits_below, bits_none, bits_all, bits_whole}
 use Rattle.format.proofs.hexadecimal.read_bits.Goals as goal
 
-pub returns-in-default : goal.returns-in-default
-returns-in-default c = λ v f e. bits_none c.args.bytes.now c.loop-b.b-index v (omega arith) e c.in-default.ensures
+pub returns-in_default : goal.returns-in_default
+returns-in_default c = λ v f e. bits_none c.args.bytes.now c.loop-b.b-index v (omega arith) e c.in_default.ensures
 
-pub overflow-mul-n : goal.overflow-mul-n
-overflow-mul-n c =
+pub overflow_mul-n : goal.overflow_mul-n
+overflow_mul-n c =
     let h : c.loop-b.n < 16 ^ 15 = bits_below c.loop-b.b-index c.loop-b.n (omega arith) c.loop-b.invariant.1 in omega arith
 
-pub overflow-add-n : goal.overflow-add-n
-overflow-add-n c =
+pub overflow_add-n : goal.overflow_add-n
+overflow_add-n c =
     let h : c.loop-b.n < 16 ^ 15 = bits_below c.loop-b.b-index c.loop-b.n (omega arith) c.loop-b.invariant.1 in
     let d = c.in-Some.ensures.0 in omega arith
 

@@ -10,17 +10,17 @@ pub loop-i-init : goal.loop-i-init
 unfolding assign_named
 loop-i-init c = refl
 
-pub returns-then-is-assign-name : goal.returns-then-is-assign-name
-returns-then-is-assign-name c =
+pub returns-then-is_assign_name : goal.returns-then-is_assign_name
+returns-then-is_assign_name c =
     let i = c.loop-i.i in
     let same : get_or (take 11 ops) i Plus ≡ get_or ops i Plus = get_or-take 11 ops i Plus c.loop-i-test.true in
-    ap Some (sym same) ∙ sym (named_hit assign_name (take 11 ops) c.args.bytes.now i Plus _ c.loop-i-test.true (ap assign_name (sym same)) c.if-is-assign-name.ensures) ∙ c.loop-i.invariant
+    ap Some (sym same) ∙ sym (named_hit assign_name (take 11 ops) c.args.bytes.now i Plus _ c.loop-i-test.true (ap assign_name (sym same)) c.if-is_assign_name.ensures) ∙ c.loop-i.invariant
 
 pub loop-i-preserved : goal.loop-i-preserved
 loop-i-preserved c =
     let i = c.loop-i.i in
     let same : get_or (take 11 ops) i Plus ≡ get_or ops i Plus = get_or-take 11 ops i Plus c.loop-i-test.true in
-    sym (named_more assign_name (take 11 ops) c.args.bytes.now i Plus _ c.loop-i-test.true (ap assign_name (sym same)) c.if-is-assign-name.ensures) ∙ c.loop-i.invariant
+    sym (named_more assign_name (take 11 ops) c.args.bytes.now i Plus _ c.loop-i-test.true (ap assign_name (sym same)) c.if-is_assign_name.ensures) ∙ c.loop-i.invariant
 
 pub returns : goal.returns
 returns c = sym (named_none assign_name (take 11 ops) c.args.bytes.now c.loop-i.i c.loop-i-test.false) ∙ c.loop-i.invariant

@@ -9,10 +9,10 @@ unfolding kind_named
 loop-kind-init c = refl
 
 pub returns-then-same : goal.returns-then-same
-returns-then-same c = sym (named_hit kind_name kinds c.args.bytes.now c.loop-kind.kind-index _ _ c.loop-kind-test.true (c.as-bytes.ensures.value ∙ c.kind-name.ensures) c.if-same.ensures) ∙ c.loop-kind.invariant
+returns-then-same c = sym (named_hit kind_name kinds c.args.bytes.now c.loop-kind.kind-index _ _ c.loop-kind-test.true (c.as_bytes.ensures.value ∙ c.kind_name.ensures) c.if-same.ensures) ∙ c.loop-kind.invariant
 
 pub loop-kind-preserved : goal.loop-kind-preserved
-loop-kind-preserved c = sym (named_more kind_name kinds c.args.bytes.now c.loop-kind.kind-index _ _ c.loop-kind-test.true (c.as-bytes.ensures.value ∙ c.kind-name.ensures) c.if-same.ensures) ∙ c.loop-kind.invariant
+loop-kind-preserved c = sym (named_more kind_name kinds c.args.bytes.now c.loop-kind.kind-index _ _ c.loop-kind-test.true (c.as_bytes.ensures.value ∙ c.kind_name.ensures) c.if-same.ensures) ∙ c.loop-kind.invariant
 
 pub returns : goal.returns
 returns c = sym (named_none kind_name kinds c.args.bytes.now c.loop-kind.kind-index c.loop-kind-test.false) ∙ c.loop-kind.invariant

@@ -9,10 +9,10 @@ unfolding op_named
 loop-op-init c = refl
 
 pub returns-then-same : goal.returns-then-same
-returns-then-same c = sym (named_hit op_name ops c.args.bytes.now c.loop-op.op-index _ _ c.loop-op-test.true (c.as-bytes.ensures.value ∙ c.op-name.ensures) c.if-same.ensures) ∙ c.loop-op.invariant
+returns-then-same c = sym (named_hit op_name ops c.args.bytes.now c.loop-op.op-index _ _ c.loop-op-test.true (c.as_bytes.ensures.value ∙ c.op_name.ensures) c.if-same.ensures) ∙ c.loop-op.invariant
 
 pub loop-op-preserved : goal.loop-op-preserved
-loop-op-preserved c = sym (named_more op_name ops c.args.bytes.now c.loop-op.op-index _ _ c.loop-op-test.true (c.as-bytes.ensures.value ∙ c.op-name.ensures) c.if-same.ensures) ∙ c.loop-op.invariant
+loop-op-preserved c = sym (named_more op_name ops c.args.bytes.now c.loop-op.op-index _ _ c.loop-op-test.true (c.as_bytes.ensures.value ∙ c.op_name.ensures) c.if-same.ensures) ∙ c.loop-op.invariant
 
 pub returns : goal.returns
 returns c = sym (named_none op_name ops c.args.bytes.now c.loop-op.op-index c.loop-op-test.false) ∙ c.loop-op.invariant

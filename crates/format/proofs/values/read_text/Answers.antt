@@ -6,4 +6,4 @@ use Rattle.format.proofs.values.read_text.Goals as goal
 pub returns : goal.returns
 returns c =
     let r = c.in-Some.ensures in
-    (r.1, omega (arith, r.0), span_bytes c.read-pairs.new.out (span 0 c.in-Some.len) (λ i. omega (arith, c.type-inv.buffer i)))
+    (r.1, omega (arith, r.0), span_bytes c.read_pairs.new.out (span 0 c.in-Some.len) (λ i. omega (arith, c.type_inv.buffer i)))

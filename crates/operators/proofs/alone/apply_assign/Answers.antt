@@ -8,22 +8,22 @@ use Rattle.operators.proofs.Selecting.{apply_as_selected}
 use Rattle.operators.proofs.FirstBytes.{malformed, settled_alone}
 use Rattle.operators.proofs.alone.apply_assign.Goals as goal
 
-pub returns-then-not-are-well-formed : goal.returns-then-not-are-well-formed
-returns-then-not-are-well-formed c = record { listed = apply_as_selected; alone = malformed c.args.buffer.now (meaning (λ x. x.now) c.args.left) (meaning (λ x. x.now) c.args.right) _ c.if-not-are-well-formed.ensures }
+pub returns-then-not-are_well_formed : goal.returns-then-not-are_well_formed
+returns-then-not-are_well_formed c = record { listed = apply_as_selected; alone = malformed c.args.buffer.now (meaning (λ x. x.now) c.args.left) (meaning (λ x. x.now) c.args.right) _ c.if-not-are_well_formed.ensures }
 
-pub operate-assign-requires : goal.operate-assign-requires
-operate-assign-requires c =
-    let p = and_parts (well_formed (meaning (λ x. x.now) c.args.left)) (well_formed (meaning (λ x. x.now) c.args.right)) (sym c.if-not-are-well-formed.ensures) in
-    record { left = c.as-operand.ensures.ready p.0 _ _; right = c.as-operand-2.ensures.ready p.1 _ _; inside = zero-le }
+pub operate_assign-requires : goal.operate_assign-requires
+operate_assign-requires c =
+    let p = and_parts (well_formed (meaning (λ x. x.now) c.args.left)) (well_formed (meaning (λ x. x.now) c.args.right)) (sym c.if-not-are_well_formed.ensures) in
+    record { left = c.as_operand.ensures.ready p.0 _ _; right = c.as_operand-2.ensures.ready p.1 _ _; inside = zero-le }
 
 pub returns : goal.returns
 returns c =
     let d = c.args.buffer.now in
     let n = c.min-room.result - 0 in
-    let a = c.as-operand.ensures.same (take n d) in
-    let b = c.as-operand-2.ensures.same (take n d) in
+    let a = c.as_operand.ensures.same (take n d) in
+    let b = c.as_operand-2.ensures.same (take n d) in
     record {
       listed = apply_as_selected;
-      alone = settled_alone d (meaning (λ x. x.now) c.args.left) (meaning (λ x. x.now) c.args.right) _ n _ _ (sub-zero c.min-room.result ∙ c.min-room.ensures) c.if-not-are-well-formed.ensures
-          (settles_as (sym (λ i. applied_assign c.args.limits c.args.op (a i) (b i))) c.operate-assign.ensures);
+      alone = settled_alone d (meaning (λ x. x.now) c.args.left) (meaning (λ x. x.now) c.args.right) _ n _ _ (sub-zero c.min-room.result ∙ c.min-room.ensures) c.if-not-are_well_formed.ensures
+          (settles_as (sym (λ i. applied_assign c.args.limits c.args.op (a i) (b i))) c.operate_assign.ensures);
     }

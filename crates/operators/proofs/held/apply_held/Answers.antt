@@ -11,17 +11,17 @@ use Rattle.operators.proofs.held.apply_held.Goals as goal
 
 pub operate-requires : goal.operate-requires
 operate-requires c = record {
-  left = c.as-operand.ensures.ready c.args.work.now c.args.fill.now c.requires.left;
-  right = c.as-operand-2.ensures.ready c.args.work.now c.args.fill.now c.requires.right;
+  left = c.as_operand.ensures.ready c.args.work.now c.args.fill.now c.requires.left;
+  right = c.as_operand-2.ensures.ready c.args.work.now c.args.fill.now c.requires.right;
   inside = c.requires.inside;
 }
 
-pub end-of-requires : goal.end-of-requires
-end-of-requires c =
+pub end_of-requires : goal.end_of-requires
+end_of-requires c =
     let w = c.args.work.now in
     let n = c.args.fill.now in
-    let g = applied c.args.limits c.args.op (operand w c.as-operand.result) (operand w c.as-operand-2.result) in
-    omega (arith, ap (filled n) c.in-ok-made.ensures.answer, filled_within w n c.requires.inside g)
+    let g = applied c.args.limits c.args.op (operand w c.as_operand.result) (operand w c.as_operand-2.result) in
+    omega (arith, ap (filled n) c.in_ok-made.ensures.answer, filled_within w n c.requires.inside g)
 
 pub returns : goal.returns
 returns c =
@@ -31,15 +31,15 @@ returns c =
     let b = c.args.b in
     let f = applied c.args.limits c.args.op in
     held_gives w n c.requires.inside c.requires.short (selected c.args.op (kind_in (meant w a)) (kind_in (meant w b))) a b (f (meant w a) (meant w b)) _ _ _ _ _ c.requires.left c.requires.right
-    (apply_as_selected c.args.limits c.args.op (meant w a) (meant w b)).0 (λ i. f (c.as-operand.ensures.same w i) (c.as-operand-2.ensures.same w i)) c.in-ok-made.ensures (ap Ok c.pick.ensures) c.end-of.ensures
+    (apply_as_selected c.args.limits c.args.op (meant w a) (meant w b)).0 (λ i. f (c.as_operand.ensures.same w i) (c.as_operand-2.ensures.same w i)) c.in_ok-made.ensures (ap Ok c.pick.ensures) c.end_of.ensures
 
-pub returns-in-err-made : goal.returns-in-err-made
-returns-in-err-made c =
+pub returns-in_err-made : goal.returns-in_err-made
+returns-in_err-made c =
     let w = c.args.work.now in
     let n = c.args.fill.now in
     let a = c.args.a in
     let b = c.args.b in
     let f = applied c.args.limits c.args.op in
-    let p = err_from_is_err_and c.from-residual.result c.from-residual.ensures.1 in
+    let p = err_from_is_err_and c.from_residual.result c.from_residual.ensures.1 in
     held_gives w n c.requires.inside c.requires.short (selected c.args.op (kind_in (meant w a)) (kind_in (meant w b))) a b (f (meant w a) (meant w b)) _ _ _ _ _ c.requires.left c.requires.right
-    (apply_as_selected c.args.limits c.args.op (meant w a) (meant w b)).0 (λ i. f (c.as-operand.ensures.same w i) (c.as-operand-2.ensures.same w i)) c.in-err-made.ensures (p.1 ∙ ap Err p.2) (λ _. n)
+    (apply_as_selected c.args.limits c.args.op (meant w a) (meant w b)).0 (λ i. f (c.as_operand.ensures.same w i) (c.as_operand-2.ensures.same w i)) c.in_err-made.ensures (p.1 ∙ ap Err p.2) (λ _. n)

@@ -19,18 +19,18 @@ module _ (k : List ℕ → List ℕ → Result Given Fault) where
 
 pub returns : goal.returns
 returns c = λ work fill p q.
-    let u = c.in-ok-as-piece.ensures in
-    let v = c.in-ok-as-piece-2.ensures in
+    let u = c.in_ok-as_piece.ensures in
+    let v = c.in_ok-as_piece-2.ensures in
     (λ k. both k (as_bytes (operand work c.args.a)) (as_bytes (operand work c.args.b)) _ _ (u.bytes work) (v.bytes work), u.below fill p.below, v.below fill q.below)
 
-pub returns-in-err-as-piece : goal.returns-in-err-as-piece
-returns-in-err-as-piece c = λ work fill p q.
-    let e = err_from_is_err_and c.from-residual.result c.from-residual.ensures.1 in
+pub returns-in_err-as_piece : goal.returns-in_err-as_piece
+returns-in_err-as_piece c = λ work fill p q.
+    let e = err_from_is_err_and c.from_residual.result c.from_residual.ensures.1 in
     subst (Pieced work fill c.args.a c.args.b) (sym (e.1 ∙ ap Err e.2))
-    (λ k. first k (as_bytes (operand work c.args.a)) (as_bytes (operand work c.args.b)) _ (c.in-err-as-piece.ensures.bytes work))
+    (λ k. first k (as_bytes (operand work c.args.a)) (as_bytes (operand work c.args.b)) _ (c.in_err-as_piece.ensures.bytes work))
 
-pub returns-in-err-as-piece-2 : goal.returns-in-err-as-piece-2
-returns-in-err-as-piece-2 c = λ work fill p q.
-    let e = err_from_is_err_and c.from-residual-in-err-as-piece-2.result c.from-residual-in-err-as-piece-2.ensures.1 in
+pub returns-in_err-as_piece-2 : goal.returns-in_err-as_piece-2
+returns-in_err-as_piece-2 c = λ work fill p q.
+    let e = err_from_is_err_and c.from_residual-in_err-as_piece-2.result c.from_residual-in_err-as_piece-2.ensures.1 in
     subst (Pieced work fill c.args.a c.args.b) (sym (e.1 ∙ ap Err e.2))
-    (λ k. second k (as_bytes (operand work c.args.a)) (as_bytes (operand work c.args.b)) _ _ (c.in-ok-as-piece.ensures.bytes work) (c.in-err-as-piece-2.ensures.bytes work))
+    (λ k. second k (as_bytes (operand work c.args.a)) (as_bytes (operand work c.args.b)) _ _ (c.in_ok-as_piece.ensures.bytes work) (c.in_err-as_piece-2.ensures.bytes work))

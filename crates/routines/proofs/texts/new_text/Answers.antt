@@ -9,18 +9,18 @@ pub returns : goal.returns
 returns c =
     let d = c.args.work.now in
     let x = piece_bytes d c.args.p ++ piece_bytes d c.args.q in
-    let h = c.in-ok-grow.ensures in
+    let h = c.in_ok-grow.ensures in
     record {
-      answer = ap (λ v. Ok (New v)) c.text-value.ensures ∙ grown_ok c.args.kind c.args.limit d c.args.fill x _ h.answer;
+      answer = ap (λ v. Ok (New v)) c.text_value.ensures ∙ grown_ok c.args.kind c.args.limit d c.args.fill x _ h.answer;
       bytes = grown_bytes c.args.kind c.args.limit d c.args.fill x _ h.bytes;
     }
 
-pub returns-in-err-grow : goal.returns-in-err-grow
-returns-in-err-grow c =
+pub returns-in_err-grow : goal.returns-in_err-grow
+returns-in_err-grow c =
     let d = c.args.work.now in
     let x = piece_bytes d c.args.p ++ piece_bytes d c.args.q in
-    let h = c.in-err-grow.ensures in
-    let p = err_from_is_err_and c.from-residual.result c.from-residual.ensures.1 in
+    let h = c.in_err-grow.ensures in
+    let p = err_from_is_err_and c.from_residual.result c.from_residual.ensures.1 in
     record {
       answer = p.1 ∙ ap Err p.2 ∙ grown_err c.args.kind c.args.limit d c.args.fill x _ h.answer;
       bytes = grown_bytes c.args.kind c.args.limit d c.args.fill x _ h.bytes;

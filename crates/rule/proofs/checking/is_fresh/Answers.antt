@@ -8,13 +8,13 @@ pub loop-i-preserved : goal.loop-i-preserved
 loop-i-preserved g c =
     let env = holding (g.S.Shelf.slots c.args.shelf.now) in
     let lt : c.loop-i.i < length c.args.kinds.now = omega (arith, c.requires.all, c.loop-i-test.true) in
-    sym (fresh_more env c.args.steps.now c.args.kinds.now c.loop-i.i _ None c.loop-i-test.true lt (ap (λ o. same_kind o (get_or c.args.kinds.now c.loop-i.i None)) (sym c.kind-at.ensures) ∙ sym c.if-not-same-kind.ensures)) ∙ c.loop-i.invariant
+    sym (fresh_more env c.args.steps.now c.args.kinds.now c.loop-i.i _ None c.loop-i-test.true lt (ap (λ o. same_kind o (get_or c.args.kinds.now c.loop-i.i None)) (sym c.kind_at.ensures) ∙ sym c.if-not-same_kind.ensures)) ∙ c.loop-i.invariant
 
-pub returns-then-not-same-kind : goal.returns-then-not-same-kind
-returns-then-not-same-kind g c =
+pub returns-then-not-same_kind : goal.returns-then-not-same_kind
+returns-then-not-same_kind g c =
     let env = holding (g.S.Shelf.slots c.args.shelf.now) in
     let lt : c.loop-i.i < length c.args.kinds.now = omega (arith, c.requires.all, c.loop-i-test.true) in
-    sym (fresh_stops env c.args.steps.now c.args.kinds.now c.loop-i.i _ None c.loop-i-test.true lt (ap (λ o. same_kind o (get_or c.args.kinds.now c.loop-i.i None)) (sym c.kind-at.ensures) ∙ sym c.if-not-same-kind.ensures)) ∙ c.loop-i.invariant
+    sym (fresh_stops env c.args.steps.now c.args.kinds.now c.loop-i.i _ None c.loop-i-test.true lt (ap (λ o. same_kind o (get_or c.args.kinds.now c.loop-i.i None)) (sym c.kind_at.ensures) ∙ sym c.if-not-same_kind.ensures)) ∙ c.loop-i.invariant
 
 pub returns : goal.returns
 returns g c =

@@ -9,9 +9,9 @@ loop-i-preserved g c =
     let env = holding (g.S.Shelf.slots c.args.shelf.now) in
     let inv = c.loop-i.invariant in
     let lt : c.loop-i.i < length c.loop-i.kinds = omega (arith, inv.0, c.requires.few, c.loop-i-test.true) in (
-      length-set c.loop-i.kinds c.loop-i.i c.kind-at.result ∙ inv.0,
-      take_more_set c.loop-i.kinds c.loop-i.i c.kind-at.result lt
-          ∙ (λ j. inv.1 j ++ c.kind-at.ensures j ∷ [])
+      length-set c.loop-i.kinds c.loop-i.i c.kind_at.result ∙ inv.0,
+      take_more_set c.loop-i.kinds c.loop-i.i c.kind_at.result lt
+          ∙ (λ j. inv.1 j ++ c.kind_at.ensures j ∷ [])
           ∙ sym (map_more (kind_at env) c.args.steps.now c.loop-i.i _ c.loop-i-test.true),
     )
 

@@ -28,15 +28,15 @@ returns-in-Put g c =
       stays = c.requires.sound;
     }
 
-pub returns-in-ok-value : goal.returns-in-ok-value
-returns-in-ok-value g c =
+pub returns-in_ok-value : goal.returns-in_ok-value
+returns-in_ok-value g c =
     let w = c.args.work.now in
     let n = c.args.fill.now in
     let e = held c.args.frame.now in
     let env = holding (g.S.Shelf.slots c.args.shelf.now) in
     let o = loaded (env c.in-Slot.slot) (room n w) in
     record {
-      advances = comes_in c.args.limits env w n c.requires.inside e c.requires.held _ _ e c.requires.held o c.args.step (ap (λ x. step (values c.args.limits env) x (meanings w e) (room n w)) c.in-Slot.is) c.in-ok-value.value c.in-ok-value.ensures.gives _ _ c.push-in-Slot.ensures;
+      advances = comes_in c.args.limits env w n c.requires.inside e c.requires.held _ _ e c.requires.held o c.args.step (ap (λ x. step (values c.args.limits env) x (meanings w e) (room n w)) c.in-Slot.is) c.in_ok-value.value c.in_ok-value.ensures.gives _ _ c.push-in-Slot.ensures;
       same = c.load.ensures.same;
       stays = c.load.ensures.stays;
     }
@@ -56,74 +56,74 @@ returns-in-Local g c =
       stays = c.requires.sound;
     }
 
-pub returns-in-ok-value-2 : goal.returns-in-ok-value-2
-returns-in-ok-value-2 g c =
+pub returns-in_ok-value-2 : goal.returns-in_ok-value-2
+returns-in_ok-value-2 g c =
     let w = c.args.work.now in
     let n = c.args.fill.now in
     let e = held c.args.frame.now in
     let e₁ = held c.pop.new.self in
     let env = holding (g.S.Shelf.slots c.args.shelf.now) in
     let i = c.in-Keep.local in
-    let v = c.in-ok-value-2.value in
-    let off = c.pop.ensures ∙ ap (λ r. leaving r e₁) c.in-ok-value-2.was in
+    let v = c.in_ok-value-2.value in
+    let off = c.pop.ensures ∙ ap (λ r. leaving r e₁) c.in_ok-value-2.was in
     record {
       advances = subst (λ x. Advances c.args.limits env x w n e (Ok tt) w n (kept i v e₁)) (sym c.in-Keep.is) (keep_advances c.args.limits env w n c.requires.inside e c.requires.held i v e₁ off);
       same = λ _. g.S.Shelf.slots c.args.shelf.now;
       stays = c.requires.sound;
     }
 
-pub returns-in-ok-value-3 : goal.returns-in-ok-value-3
-returns-in-ok-value-3 g c =
+pub returns-in_ok-value-3 : goal.returns-in_ok-value-3
+returns-in_ok-value-3 g c =
     let w = c.args.work.now in
     let n = c.args.fill.now in
     let e = held c.args.frame.now in
     let e₁ = held c.pop-in-Apply.new.self in
     let e₂ = held c.pop-in-Apply-2.new.self in
     let env = holding (g.S.Shelf.slots c.args.shelf.now) in
-    let b = c.in-ok-right.right in
-    let a = c.in-ok-left.left in
-    let q = c.pop-in-Apply.ensures ∙ ap (λ r. leaving r e₁) c.in-ok-right.was in
-    let p = c.pop-in-Apply-2.ensures ∙ ap (λ r. leaving r e₂) c.in-ok-left.was in
+    let b = c.in_ok-right.right in
+    let a = c.in_ok-left.left in
+    let q = c.pop-in-Apply.ensures ∙ ap (λ r. leaving r e₁) c.in_ok-right.was in
+    let p = c.pop-in-Apply-2.ensures ∙ ap (λ r. leaving r e₂) c.in_ok-left.was in
     let rest = (pop_held w n e₁ a e₂ (pop_held w n e b e₁ c.requires.held q).rest p).rest in
     let m = values c.args.limits env in
     let o = applied_in c.args.limits c.in-Apply.op (room n w) (meant w a) (meant w b) in
     record {
-      advances = comes_in c.args.limits env w n c.requires.inside e c.requires.held _ _ e₂ rest o c.args.step (ap (λ x. step m x (meanings w e) (room n w)) c.in-Apply.is ∙ apply_step m (meanings w e) (room n w) c.in-Apply.op (meant w a) (meant w b) (meanings w e₁) (meanings w e₂) (pop_means w n e b e₁ q) (pop_means w n e₁ a e₂ p)) c.in-ok-value-3.value c.in-ok-value-3.ensures _ _ c.push-in-Apply.ensures;
+      advances = comes_in c.args.limits env w n c.requires.inside e c.requires.held _ _ e₂ rest o c.args.step (ap (λ x. step m x (meanings w e) (room n w)) c.in-Apply.is ∙ apply_step m (meanings w e) (room n w) c.in-Apply.op (meant w a) (meant w b) (meanings w e₁) (meanings w e₂) (pop_means w n e b e₁ q) (pop_means w n e₁ a e₂ p)) c.in_ok-value-3.value c.in_ok-value-3.ensures _ _ c.push-in-Apply.ensures;
       same = λ _. g.S.Shelf.slots c.args.shelf.now;
       stays = c.requires.sound;
     }
 
-pub returns-in-err-value-3 : goal.returns-in-err-value-3
-returns-in-err-value-3 g c =
+pub returns-in_err-value-3 : goal.returns-in_err-value-3
+returns-in_err-value-3 g c =
     let w = c.args.work.now in
     let n = c.args.fill.now in
     let e = held c.args.frame.now in
     let e₁ = held c.pop-in-Apply.new.self in
     let e₂ = held c.pop-in-Apply-2.new.self in
     let env = holding (g.S.Shelf.slots c.args.shelf.now) in
-    let b = c.in-ok-right.right in
-    let a = c.in-ok-left.left in
-    let q = c.pop-in-Apply.ensures ∙ ap (λ r. leaving r e₁) c.in-ok-right.was in
-    let p = c.pop-in-Apply-2.ensures ∙ ap (λ r. leaving r e₂) c.in-ok-left.was in
+    let b = c.in_ok-right.right in
+    let a = c.in_ok-left.left in
+    let q = c.pop-in-Apply.ensures ∙ ap (λ r. leaving r e₁) c.in_ok-right.was in
+    let p = c.pop-in-Apply-2.ensures ∙ ap (λ r. leaving r e₂) c.in_ok-left.was in
     let rest = (pop_held w n e₁ a e₂ (pop_held w n e b e₁ c.requires.held q).rest p).rest in
     let m = values c.args.limits env in
     let o = applied_in c.args.limits c.in-Apply.op (room n w) (meant w a) (meant w b) in
-    let x = err_from_is_err_and c.from-residual-in-err-value-3.result c.from-residual-in-err-value-3.ensures.1 in
+    let x = err_from_is_err_and c.from_residual-in_err-value-3.result c.from_residual-in_err-value-3.ensures.1 in
     record {
-      advances = refused c.args.limits env w n c.requires.inside e c.requires.held _ _ e₂ rest o c.args.step _ (ap (λ x. step m x (meanings w e) (room n w)) c.in-Apply.is ∙ apply_step m (meanings w e) (room n w) c.in-Apply.op (meant w a) (meant w b) (meanings w e₁) (meanings w e₂) (pop_means w n e b e₁ q) (pop_means w n e₁ a e₂ p)) _ _ _ c.in-err-value-3.ensures (x.1 ∙ ap Err x.2);
+      advances = refused c.args.limits env w n c.requires.inside e c.requires.held _ _ e₂ rest o c.args.step _ (ap (λ x. step m x (meanings w e) (room n w)) c.in-Apply.is ∙ apply_step m (meanings w e) (room n w) c.in-Apply.op (meant w a) (meant w b) (meanings w e₁) (meanings w e₂) (pop_means w n e b e₁ q) (pop_means w n e₁ a e₂ p)) _ _ _ c.in_err-value-3.ensures (x.1 ∙ ap Err x.2);
       same = λ _. g.S.Shelf.slots c.args.shelf.now;
       stays = c.requires.sound;
     }
 
-pub assign-held-requires : goal.assign-held-requires
-assign-held-requires g c =
+pub assign_held-requires : goal.assign_held-requires
+assign_held-requires g c =
     let w = c.args.work.now in
     let n = c.args.fill.now in
     let f = c.args.frame.now in
     let f₁ = c.pop-in-Assign.new.self in
     let i = c.in-Assign.local in
     let lt : i < length f₁.locals = omega (arith, f₁.eight, local_below i (sym (ap takes c.in-Assign.is) ∙ c.requires.taken)) in
-    let q = c.pop-in-Assign.ensures ∙ ap (λ r. leaving r (held f₁)) c.in-ok-right-2.was in
+    let q = c.pop-in-Assign.ensures ∙ ap (λ r. leaving r (held f₁)) c.in_ok-right-2.was in
     let off = pop_held w n (held f) _ (held f₁) c.requires.held q in
     record {
       left = local_held w n i value.Unit (held f₁) lt off.rest;
@@ -132,16 +132,16 @@ assign-held-requires g c =
       short = c.requires.short;
     }
 
-pub returns-in-ok-right-2 : goal.returns-in-ok-right-2
-returns-in-ok-right-2 g c =
+pub returns-in_ok-right-2 : goal.returns-in_ok-right-2
+returns-in_ok-right-2 g c =
     let w = c.args.work.now in
     let n = c.args.fill.now in
     let f = c.args.frame.now in
     let f₁ = c.pop-in-Assign.new.self in
     let i = c.in-Assign.local in
     let lt : i < length f₁.locals = omega (arith, f₁.eight, local_below i (sym (ap takes c.in-Assign.is) ∙ c.requires.taken)) in
-    let b = c.in-ok-right-2.right in
-    let q = c.pop-in-Assign.ensures ∙ ap (λ r. leaving r (held f₁)) c.in-ok-right-2.was in
+    let b = c.in_ok-right-2.right in
+    let q = c.pop-in-Assign.ensures ∙ ap (λ r. leaving r (held f₁)) c.in_ok-right-2.was in
     let off = pop_held w n (held f) b (held f₁) c.requires.held q in
     let env = holding (g.S.Shelf.slots c.args.shelf.now) in
     let m = values c.args.limits env in
@@ -149,7 +149,7 @@ returns-in-ok-right-2 g c =
     let o = assigned_in c.args.limits c.in-Assign.op (room n w) (meant w a) (meant w b) in
     let here = ap (λ ls. get_or (map (meant w) ls) i unit) (popped_locals (held f) b (held f₁) q) ∙ local_means w n i value.Unit (held f₁) lt in
     record {
-      advances = assign_advances c.args.limits env w n c.requires.inside (held f) c.requires.held _ _ (held f₁) off.rest o c.args.step i _ c.assign-held.result (ap (λ x. step m x (meanings w (held f)) (room n w)) c.in-Assign.is ∙ assign_step m (meanings w (held f)) (room n w) c.in-Assign.op i (meant w a) (meant w b) (meanings w (held f₁)) (pop_means w n (held f) b (held f₁) q) here) c.assign-held.ensures;
+      advances = assign_advances c.args.limits env w n c.requires.inside (held f) c.requires.held _ _ (held f₁) off.rest o c.args.step i _ c.assign_held.result (ap (λ x. step m x (meanings w (held f)) (room n w)) c.in-Assign.is ∙ assign_step m (meanings w (held f)) (room n w) c.in-Assign.op i (meant w a) (meant w b) (meanings w (held f₁)) (pop_means w n (held f) b (held f₁) q) here) c.assign_held.ensures;
       same = λ _. g.S.Shelf.slots c.args.shelf.now;
       stays = c.requires.sound;
     }

@@ -28,20 +28,20 @@ loop-i-preserved g c =
     let slots = g.S.Shelf.slots in
     let env = holding (slots c.args.shelf.now) in
     let did = subst (λ s. Advances c.args.limits (holding s) (get_or c.args.steps.now c.loop-i.i (Put value.Unit)) c.loop-i.work c.loop-i.fill (held c.loop-i.frame) c.advance.result c.advance.new.work c.advance.new.fill (held c.advance.new.frame)) c.loop-i.invariant.1 c.advance.ensures.advances in (
-      far_more c.args.limits env c.args.steps.now c.args.work.now c.loop-i.i (Put value.Unit) _ _ _ _ _ _ c.advance.result c.loop-i-test.true c.loop-i.invariant.0 did (sym c.placed.ensures ∙ c.in-ok-placed.was),
+      far_more c.args.limits env c.args.steps.now c.args.work.now c.loop-i.i (Put value.Unit) _ _ _ _ _ _ c.advance.result c.loop-i-test.true c.loop-i.invariant.0 did (sym c.placed.ensures ∙ c.in_ok-placed.was),
       c.advance.ensures.same ∙ c.loop-i.invariant.1,
       c.advance.ensures.stays,
     )
 
-pub returns-in-err-placed : goal.returns-in-err-placed
-returns-in-err-placed g c =
+pub returns-in_err-placed : goal.returns-in_err-placed
+returns-in_err-placed g c =
     let slots = g.S.Shelf.slots in
     let env = holding (slots c.args.shelf.now) in
     let did = subst (λ s. Advances c.args.limits (holding s) (get_or c.args.steps.now c.loop-i.i (Put value.Unit)) c.loop-i.work c.loop-i.fill (held c.loop-i.frame) c.advance.result c.advance.new.work c.advance.new.fill (held c.advance.new.frame)) c.loop-i.invariant.1 c.advance.ensures.advances in
-    let p = err_from_is_err_and c.from-residual.result c.from-residual.ensures.1 in
+    let p = err_from_is_err_and c.from_residual.result c.from_residual.ensures.1 in
     record {
       walks = subst (λ r. Walks c.args.limits env c.args.steps.now c.args.work.now r c.advance.new.work) (sym (p.1 ∙ ap Err p.2))
-          (walk_stops c.args.limits env c.args.steps.now c.args.work.now c.loop-i.i (Put value.Unit) _ _ _ _ _ _ c.advance.result c.loop-i-test.true c.loop-i.invariant.0 did _ (sym c.placed.ensures ∙ c.in-err-placed.was));
+          (walk_stops c.args.limits env c.args.steps.now c.args.work.now c.loop-i.i (Put value.Unit) _ _ _ _ _ _ c.advance.result c.loop-i-test.true c.loop-i.invariant.0 did _ (sym c.placed.ensures ∙ c.in_err-placed.was));
       same = c.advance.ensures.same ∙ c.loop-i.invariant.1;
       stays = c.advance.ensures.stays;
     }

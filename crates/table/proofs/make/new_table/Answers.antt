@@ -13,7 +13,7 @@ returns c =
     let n = length c.args.records.now in
     let cap = c.args.capacity in
     let bs = c.args.texts.now in
-    let o = sym (ap is_ok c.test-table.ensures) ∙ c.if-is-err.ensures.negation in
+    let o = sym (ap is_ok c.test_table.ensures) ∙ c.if-is_err.ensures.negation in
     let b = all_blank c.loop-r.records n c.loop-r.auto.records (λ k h. c.loop-r.invariant k (omega arith)) in
     record {
       sound = ap (λ rs. whole rs bs cap) b ∙ whole_blank n bs cap (tested_room n cap (length bs) o);

@@ -9,4 +9,4 @@ decides_ok P Q R (Ok s) h = (λ _. h.1, λ _. refl)
 decides_ok P Q R (Err e) h = (λ t. absurd (false≢true t), λ p. absurd (h.0 p))
 
 pub returns : goal.returns
-returns c = c.is-ok.ensures.value ∙ same_from_decides _ _ (decides_ok _ _ _ c.from-utf8.result c.from-utf8.ensures.cases) (utf8_decides c.args.bytes.now)
+returns c = c.is_ok.ensures.value ∙ same_from_decides _ _ (decides_ok _ _ _ c.from_utf8.result c.from_utf8.ensures.cases) (utf8_decides c.args.bytes.now)

@@ -24,9 +24,9 @@ pub returns : goal.returns
 returns c =
     let d = c.args.work.now in
     let x = piece_bytes d c.args.p ++ piece_bytes d c.args.q in
-    let n : length x ≡ c.piece-len-m.result + c.piece-len-n.result = omega (arith, length-append (piece_bytes d c.args.p) (piece_bytes d c.args.q)) in
+    let n : length x ≡ c.piece_len-m.result + c.piece_len-n.result = omega (arith, length-append (piece_bytes d c.args.p) (piece_bytes d c.args.q)) in
     let e = stored_fits d x c.args.fill (omega arith) in
     record {
       answer = ap (λ (k : ℕ). Ok (span c.args.fill k)) (sym n) ∙ sym (ap (λ (s : Stored). s.answer) e);
-      bytes = laid_behind d _ _ c.args.fill c.args.p c.args.q c.piece-len-m.result c.piece-len-m.ensures c.requires.right (omega arith) c.lay.ensures c.lay-2.ensures ∙ sym (ap (λ (s : Stored). s.bytes) e);
+      bytes = laid_behind d _ _ c.args.fill c.args.p c.args.q c.piece_len-m.result c.piece_len-m.ensures c.requires.right (omega arith) c.lay.ensures c.lay-2.ensures ∙ sym (ap (λ (s : Stored). s.bytes) e);
     }

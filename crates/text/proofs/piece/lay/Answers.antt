@@ -3,5 +3,5 @@ use Rattle.text.specs.declared.piece.Piece.TheVariants.{Whole}
 use Rattle.text.proofs.Pieces.{part_fits}
 use Rattle.text.proofs.piece.lay.Goals as goal
 
-pub copy-up-requires : goal.copy-up-requires
-copy-up-requires c = part_fits c.args.work.now c.args.fill c.args.piece c.in-Part.s (c.in-Whole.is ∙ ap Whole c.in-Part.is) c.requires.below c.requires.fits
+pub copy_up-requires : goal.copy_up-requires
+copy_up-requires c = part_fits c.args.work.now c.args.fill c.args.piece c.in-Part.s (c.in-Whole.is ∙ ap Whole c.in-Part.is) c.requires.below c.requires.fits

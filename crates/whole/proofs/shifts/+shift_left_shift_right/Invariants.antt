@@ -6,8 +6,8 @@ abbrev sign : ℤ → ℕ
 sign (pos n) = 0
 sign (negsuc n) = 1
 
-abbrev pub decreases-shift-left : goal.decreases-shift-left
-decreases-shift-left l = sign l.y
+abbrev pub decreases-shift_left : goal.decreases-shift_left
+decreases-shift_left l = sign l.y
 
-abbrev pub decreases-shift-right : goal.decreases-shift-right
-decreases-shift-right l = sign l.y
+abbrev pub decreases-shift_right : goal.decreases-shift_right
+decreases-shift_right l = sign l.y

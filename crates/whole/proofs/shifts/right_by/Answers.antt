@@ -7,9 +7,9 @@ use Rattle.whole.proofs.shifts.right_by.Goals as goal
 pub returns : goal.returns
 returns c =
     let f : SFits w64 c.args.x = c.ranges.x in
-    let g : SFits w64 c.unwrap-or.result = search rules in
-    let i : SFits w64 c.wrapping-shr.result = search rules in
-    let h = simp to_z-of_z at c.checked-shr.ensures in
-    let w = simp to_z-of_z at c.wrapping-shr.ensures in
-    let u = simp to_z-of_z at c.unwrap-or.ensures in
-    simp to_z-of_z (u ∙ ap (unwrap_or c.checked-shr.result) w ∙ right_either c.args.x c.args.n c.checked-shr.result f h)
+    let g : SFits w64 c.unwrap_or.result = search rules in
+    let i : SFits w64 c.wrapping_shr.result = search rules in
+    let h = simp to_z-of_z at c.checked_shr.ensures in
+    let w = simp to_z-of_z at c.wrapping_shr.ensures in
+    let u = simp to_z-of_z at c.unwrap_or.ensures in
+    simp to_z-of_z (u ∙ ap (unwrap_or c.checked_shr.result) w ∙ right_either c.args.x c.args.n c.checked_shr.result f h)

@@ -26,10 +26,10 @@ returns-in-Second g c =
       stays = (c.requires.0, c.post-in-Second.ensures.stays);
     }
 
-pub returns-else-not-is-well-formed : goal.returns-else-not-is-well-formed
-returns-else-not-is-well-formed g c =
+pub returns-else-not-is_well_formed : goal.returns-else-not-is_well_formed
+returns-else-not-is_well_formed g c =
     let s = c.args.self.now in
     let l = joined (g.P.Shelf.slots s.first) (g.Q.Shelf.slots s.second) in
-    let e = ap (λ b. cond b (refused l Absent) (refused l Malformed)) c.if-not-is-well-formed.ensures
+    let e = ap (λ b. cond b (refused l Absent) (refused l Malformed)) c.if-not-is_well_formed.ensures
     ∙ posted_joined (g.P.Shelf.slots s.first) (g.Q.Shelf.slots s.second) c.args.slot _ c.in-Neither.ensures (meaning (λ x. x.now) c.args.value) in
     record { answer = ap (λ (p : Posted). p.answer) e; after = ap (λ (p : Posted). p.after) e; stays = c.requires }

@@ -8,9 +8,9 @@ use Rattle.layers.proofs.sealed.SealedShelf.post.Goals as goal
 
 pub returns : goal.returns
 returns g c =
-    let e = sym (posted_sealed (g.S.Shelf.slots c.args.self.now.below) c.args.slot (meaning (λ x. x.now) c.args.value) (sym c.if-not-is-well-formed.ensures)) in
+    let e = sym (posted_sealed (g.S.Shelf.slots c.args.self.now.below) c.args.slot (meaning (λ x. x.now) c.args.value) (sym c.if-not-is_well_formed.ensures)) in
     record {
-      answer = ap (λ r. bind r (λ _. Err Sealed)) c.in-ok-mark.ensures ∙ ap (λ (p : Posted). p.answer) e;
+      answer = ap (λ r. bind r (λ _. Err Sealed)) c.in_ok-mark.ensures ∙ ap (λ (p : Posted). p.answer) e;
       after = ap (λ (p : Posted). p.after) e;
       stays = c.requires;
     }

@@ -8,5 +8,5 @@ use Rattle.show.proofs.values.ShownDisplay.fmt.Goals as goal
 pub returns-in-Float-clause-writes : goal.returns-in-Float-clause-writes
 returns-in-Float-clause-writes g c = λ plain ok.
     put_is _ _ _ _ _
-    (ap (λ n. codes "float\t" ++ figures 16 n) c.float-bits.ensures ∙ sym (ap (λ v. shown_value (meaning (λ x. x.now) v)) c.in-Float.is))
+    (ap (λ n. codes "float\t" ++ figures 16 n) c.float_bits.ensures ∙ sym (ap (λ v. shown_value (meaning (λ x. x.now) v)) c.in-Float.is))
     (c.write-in-Float.ensures.writes plain ok)

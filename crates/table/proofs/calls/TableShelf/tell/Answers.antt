@@ -17,7 +17,7 @@ returns c =
     let b = c.args.buffer.now in
     let p = c.args.place in
     let e = told_some (table_slots t) c.args.slot b p _ (nth_rows t.records.now t.texts.now t.capacity c.args.slot c.if-k-self.false) in
-    let m = c.value-at.ensures in
+    let m = c.value_at.ensures in
     record {
       answer = c.store.ensures.answer ∙ ap (λ v. (told_at b p v).answer) m ∙ sym (ap (λ (x : Told). x.answer) e);
       bytes = c.store.ensures.bytes ∙ ap (λ v. (told_at b p v).bytes) m ∙ sym (ap (λ (x : Told). x.bytes) e);

@@ -6,8 +6,8 @@ use Rattle.table.specs.Rows.{blank}
 use Rattle.table.proofs.Rowed.{whole_at, text_short}
 use Rattle.table.proofs.table.Table.value_at.Goals as goal
 
-pub overflow-mul-k : goal.overflow-mul-k
-overflow-mul-k c =
+pub overflow_mul-k : goal.overflow_mul-k
+overflow_mul-k c =
     let t = c.args.self.now in
     omega (arith, (whole_at t.records.now t.texts.now t.capacity c.args.k c.requires.present c.requires.whole).within)
 

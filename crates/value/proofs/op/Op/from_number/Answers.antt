@@ -12,4 +12,4 @@ item_nth xs i None h = sym (slice_get_past xs i h.3)
 item_nth xs i (Some x) h = sym (slice_get-get_or xs i x.now h.3.0 ∙ ap Some (sym h.1))
 
 pub returns : goal.returns
-returns c = c.ok-or.ensures.value ∙ ap (λ o. ok_or o Unknown) (c.copied.ensures ∙ item_nth ops c.args.number c.get.result c.get.ensures.lookup)
+returns c = c.ok_or.ensures.value ∙ ap (λ o. ok_or o Unknown) (c.copied.ensures ∙ item_nth ops c.args.number c.get.result c.get.ensures.lookup)
