@@ -23,9 +23,9 @@ pub struct Clerk<S: Shelf> {
 
 impl<S: Shelf> Clerk<S> {
     pub fn new(shelf: S) -> Self
-        requires { sound shelf }
-        ensures reached { Reached (slots shelf) [] (slots result.desk.shelf) result.desk.rule }
-        ensures ready { sound result.desk.shelf }
+        requires { S.sound shelf }
+        ensures reached { Reached (S.slots shelf) [] (S.slots result.desk.shelf) result.desk.rule }
+        ensures ready { S.sound result.desk.shelf }
     {
         Clerk {
             desk: Desk::new(shelf),
@@ -36,9 +36,9 @@ impl<S: Shelf> Clerk<S> {
 }
 
 impl<S: Shelf> Answerer for Clerk<S> {
-    ghost ready = { λ c. sound c.desk.shelf };
+    ghost ready = { λ c. S.sound c.desk.shelf };
 
-    ghost answers = { λ c line d. AnswersLine line (slots c.desk.shelf) c.desk.rule c.work (slots d.desk.shelf) d.desk.rule d.work };
+    ghost answers = { λ c line d. AnswersLine line (S.slots c.desk.shelf) c.desk.rule c.work (S.slots d.desk.shelf) d.desk.rule d.work };
 
     fn answer<W: Write>(&mut self, line: &[u8], out: &mut W) -> io::Result<()> {
         let reply = serve_line(&mut self.desk, line, &mut self.scratch, &mut self.work);

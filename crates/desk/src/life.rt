@@ -14,9 +14,9 @@ pub fn session<S: Shelf + Drop>(
     work: &mut [u8],
     answers: &mut [Result<Reply, Refusal>],
 ) -> usize
-    requires { sound shelf }
+    requires { S.sound shelf }
     ensures count { result ≡ min (length calls.now) (length answers.old) }
-    ensures lawful { AllLawful (slots shelf) [] (events (take result calls.now)) (take result answers.new) work.old work.new }
+    ensures lawful { AllLawful (S.slots shelf) [] (events (take result calls.now)) (take result answers.new) work.old work.new }
     ensures rest { drop result answers.new ≡ drop result answers.old }
 {
     let mut desk = Desk::new(shelf);

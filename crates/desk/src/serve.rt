@@ -13,9 +13,9 @@ use shelf::Shelf;
 impl<S: Shelf> Desk<S> {
     // A desk with an open, empty rule.
     pub fn new(shelf: S) -> Self
-        requires { sound shelf }
-        ensures reached { Reached (slots shelf) [] (slots result.shelf) result.rule }
-        ensures sound { sound result.shelf }
+        requires { S.sound shelf }
+        ensures reached { Reached (S.slots shelf) [] (S.slots result.shelf) result.rule }
+        ensures sound { S.sound result.shelf }
     {
         Desk {
             shelf,
@@ -24,11 +24,11 @@ impl<S: Shelf> Desk<S> {
     }
 
     fn answer(&mut self, call: Call, work: &mut [u8]) -> Result<Reply, Refusal>
-        requires { sound self.old.shelf }
-        ensures answer { answered (desk_of (slots self.old.shelf) self.old.rule) (event call.entry) work.old ≡ beside work.new (meant_by work.new result) }
-        ensures after { desk_of (slots self.new.shelf) self.new.rule ≡ feed (desk_of (slots self.old.shelf) self.old.rule) (event call.entry) }
+        requires { S.sound self.old.shelf }
+        ensures answer { answered (desk_of (S.slots self.old.shelf) self.old.rule) (event call.entry) work.old ≡ beside work.new (meant_by work.new result) }
+        ensures after { desk_of (S.slots self.new.shelf) self.new.rule ≡ feed (desk_of (S.slots self.old.shelf) self.old.rule) (event call.entry) }
         ensures within { WithinWork work.new result }
-        ensures stays { sound self.new.shelf }
+        ensures stays { S.sound self.new.shelf }
     {
         match call {
             Call::Post { slot, value } => {
@@ -58,10 +58,10 @@ impl<S: Shelf> Desk<S> {
 
     // Serves a call: the main theorem is about this function.
     pub fn serve(&mut self, call: Call, work: &mut [u8]) -> Result<Reply, Refusal>
-        requires { sound self.old.shelf }
-        ensures served { Served (slots self.old.shelf) self.old.rule (event call.entry) work.old result work.new (slots self.new.shelf) self.new.rule }
+        requires { S.sound self.old.shelf }
+        ensures served { Served (S.slots self.old.shelf) self.old.rule (event call.entry) work.old result work.new (S.slots self.new.shelf) self.new.rule }
         ensures within { WithinWork work.new result }
-        ensures stays { sound self.new.shelf }
+        ensures stays { S.sound self.new.shelf }
     {
         self.answer(call, work)
     }

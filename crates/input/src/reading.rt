@@ -34,9 +34,9 @@ fn end_line<A: Answerer, W: Write>(
     out: &mut W,
 ) -> io::Result<()>
     requires inside { Inside (length buffer.now) line }
-    requires ready { ready answerer.old }
-    ensures answers { answers answerer.old (begun buffer.now line) answerer.new }
-    ensures ready { ready answerer.new }
+    requires ready { A.ready answerer.old }
+    ensures answers { A.answers answerer.old (begun buffer.now line) answerer.new }
+    ensures ready { A.ready answerer.new }
 {
     match line {
         Begun::Kept(len) => answerer.answer(&buffer[0..len], out),
@@ -53,9 +53,9 @@ fn hand_on<A: Answerer, W: Write>(
     out: &mut W,
 ) -> io::Result<()>
     requires inside { Inside (length buffer.old) line }
-    requires ready { ready answerer.old }
-    ensures answers { answers answerer.old (longer (length buffer.old) (begun buffer.old line) part.now) answerer.new }
-    ensures ready { ready answerer.new }
+    requires ready { A.ready answerer.old }
+    ensures answers { A.answers answerer.old (longer (length buffer.old) (begun buffer.old line) part.now) answerer.new }
+    ensures ready { A.ready answerer.new }
 {
     match line {
         Begun::Kept(0) if part.len() <= buffer.len() => answerer.answer(part, out),
@@ -75,10 +75,10 @@ pub fn feed<A: Answerer, W: Write>(
     out: &mut W,
 ) -> io::Result<Begun>
     requires inside { Inside (length buffer.old) first }
-    requires ready { ready answerer.old }
-    ensures fed { IfOk result (λ b. Fed answers (length buffer.old) answerer.old (begun buffer.old first) chunk.now answerer.new (begun buffer.new b)) }
+    requires ready { A.ready answerer.old }
+    ensures fed { IfOk result (λ b. Fed A.answers (length buffer.old) answerer.old (begun buffer.old first) chunk.now answerer.new (begun buffer.new b)) }
     ensures inside { IfOk result (λ b. Inside (length buffer.new) b) }
-    ensures ready { ready answerer.new }
+    ensures ready { A.ready answerer.new }
 {
     let mut line = first;
     let mut rest = chunk;
@@ -102,8 +102,8 @@ pub fn serve<R: Read, A: Answerer, W: Write>(
     answerer: &mut A,
     out: &mut W,
 ) -> io::Result<()>
-    requires { ready answerer.old }
-    ensures { ready answerer.new }
+    requires { A.ready answerer.old }
+    ensures { A.ready answerer.new }
 {
     let mut line = Begun::Kept(0);
     for _ in 0..u64::MAX {

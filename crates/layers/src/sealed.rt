@@ -15,20 +15,20 @@ pub struct Sealed<S: Shelf> {
 
 impl<S: Shelf> Sealed<S> {
     pub fn new(below: S) -> Self
-        requires { sound below }
-        ensures slots { sealed (slots result.below) ≡ sealed (slots below) }
-        ensures sound { sound result.below }
+        requires { S.sound below }
+        ensures slots { sealed (S.slots result.below) ≡ sealed (S.slots below) }
+        ensures sound { S.sound result.below }
     {
         Sealed { below }
     }
 }
 
 impl<S: Shelf> Shelf for Sealed<S> {
-    ghost slots = { λ s. sealed (slots s.below) };
+    ghost slots = { λ s. sealed (S.slots s.below) };
 
-    ghost sound = { λ s. sound s.below };
+    ghost sound = { λ s. S.sound s.below };
 
-    ghost formed = { λ s h. sealed_formed (slots s.below) (formed s.below h) };
+    ghost formed = { λ s h. sealed_formed (S.slots s.below) (S.formed s.below h) };
 
     fn count(&self) -> usize {
         self.below.count()

@@ -12,7 +12,7 @@ use value::{Op, Value};
 // A shelf whose tables, without room for texts, share out the records.
 pub trait Share<'a>: Shelf + Sized {
     fn share(records: &'a mut [Record]) -> Self
-        ensures { Self.Shelf.sound result };
+        ensures { Self.sound result };
 }
 
 impl<'a> Share<'a> for Table<'a> {
@@ -31,7 +31,7 @@ impl<'a, P: Share<'a>, Q: Share<'a>> Share<'a> for Joined<P, Q> {
 
 // Calls on the last slots that any shelf shows, with a seam between them, and behind these.
 fn hold_last<S: Shelf + Drop>(rt: &HostRuntime, pile: S) -> io::Result<()>
-    requires { sound pile }
+    requires { S.sound pile }
 {
     let calls = [
         Call::Count,

@@ -53,9 +53,9 @@ impl Rule {
 
     // The kinds that the answer can have.
     pub fn check<S: Shelf>(&mut self, shelf: &S) -> Result<KindSet, Refusal>
-        requires { sound shelf.now }
-        ensures answer { result ≡ checks (holding (slots shelf.now)) (rule_of self.old) }
-        ensures after { rule_of self.new ≡ passed (holding (slots shelf.now)) (rule_of self.old) }
+        requires { S.sound shelf.now }
+        ensures answer { result ≡ checks (holding (S.slots shelf.now)) (rule_of self.old) }
+        ensures after { rule_of self.new ≡ passed (holding (S.slots shelf.now)) (rule_of self.old) }
     {
         let steps = &self.steps[0..self.count];
         let answer = check_steps(steps, shelf)?;
@@ -70,10 +70,10 @@ impl Rule {
         limits: Limits,
         work: &mut [u8],
     ) -> Result<Value<Span>, Refusal>
-        requires { sound shelf.old }
-        ensures ends { Ends (ran limits (holding (slots shelf.old)) (rule_of self.now).steps (rule_of self.now).kept work.old) result work.new }
-        ensures same { slots shelf.new ≡ slots shelf.old }
-        ensures stays { sound shelf.new }
+        requires { S.sound shelf.old }
+        ensures ends { Ends (ran limits (holding (S.slots shelf.old)) (rule_of self.now).steps (rule_of self.now).kept work.old) result work.new }
+        ensures same { S.slots shelf.new ≡ S.slots shelf.old }
+        ensures stays { S.sound shelf.new }
     {
         match &self.state {
             State::Open => Err(Fault::NotPassed.into()),

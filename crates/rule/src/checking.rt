@@ -14,9 +14,9 @@ use steps::{Frame, Step};
 use value::{Kind, KindSet};
 
 fn advance<S: Shelf>(step: Step, frame: &mut Frame<KindSet>, shelf: &S) -> Result<(), Fault>
-    requires sound { sound shelf.now }
+    requires sound { S.sound shelf.now }
     requires taken { takes step ≡ Ok tt }
-    ensures { stepped (sets (holding (slots shelf.now))) step (held frame.old) tt ≡ beside tt (done result (held frame.new)) }
+    ensures { stepped (sets (holding (S.slots shelf.now))) step (held frame.old) tt ≡ beside tt (done result (held frame.new)) }
 {
     match step {
         Step::Put(value) => frame.push(KindSet::single(value.kind())),
@@ -51,9 +51,9 @@ fn advance<S: Shelf>(step: Step, frame: &mut Frame<KindSet>, shelf: &S) -> Resul
 
 // CHECK's answer: the set of kinds that the last value can have.
 pub(crate) fn check_steps<S: Shelf>(steps: &[Step], shelf: &S) -> Result<KindSet, Refusal>
-    requires sound { sound shelf.now }
+    requires sound { S.sound shelf.now }
     requires taken { all_taken steps.now ≡ true }
-    ensures { result ≡ checked (holding (slots shelf.now)) steps.now }
+    ensures { result ≡ checked (holding (S.slots shelf.now)) steps.now }
 {
     let mut frame = Frame::new(KindSet::single(Kind::Unit));
     for i in 0..steps.len() {
@@ -64,8 +64,8 @@ pub(crate) fn check_steps<S: Shelf>(steps: &[Step], shelf: &S) -> Result<KindSet
 
 // The kind now of the slot that a step loads.
 fn kind_at<S: Shelf>(step: Step, shelf: &S) -> Option<Kind>
-    requires { sound shelf.now }
-    ensures { result ≡ kind_at (holding (slots shelf.now)) step }
+    requires { S.sound shelf.now }
+    ensures { result ≡ kind_at (holding (S.slots shelf.now)) step }
 {
     match step {
         Step::Slot(slot) => shelf.kind(slot).ok(),
@@ -74,9 +74,9 @@ fn kind_at<S: Shelf>(step: Step, shelf: &S) -> Option<Kind>
 }
 
 pub(crate) fn kinds_at<S: Shelf>(steps: &[Step], shelf: &S) -> [Option<Kind>; 128]
-    requires sound { sound shelf.now }
+    requires sound { S.sound shelf.now }
     requires few { length steps.now ≤ 128 }
-    ensures { take (length steps.now) result ≡ kinds_at (holding (slots shelf.now)) steps.now }
+    ensures { take (length steps.now) result ≡ kinds_at (holding (S.slots shelf.now)) steps.now }
 {
     let mut kinds = [None; 128];
     for i in 0..steps.len() {
@@ -97,9 +97,9 @@ fn same_kind(a: Option<Kind>, b: Option<Kind>) -> bool
 
 // Whether every load finds the kind that was kept of it.
 pub(crate) fn is_fresh<S: Shelf>(steps: &[Step], kinds: &[Option<Kind>], shelf: &S) -> bool
-    requires sound { sound shelf.now }
+    requires sound { S.sound shelf.now }
     requires all { length kinds.now ≡ length steps.now }
-    ensures { result ≡ fresh (holding (slots shelf.now)) steps.now kinds.now }
+    ensures { result ≡ fresh (holding (S.slots shelf.now)) steps.now kinds.now }
 {
     for i in 0..steps.len() {
         if !same_kind(kind_at(steps[i], shelf), kinds[i]) {

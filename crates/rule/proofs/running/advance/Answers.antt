@@ -28,15 +28,15 @@ returns-in-Put g c =
       stays = c.requires.sound;
     }
 
-pub returns-in_ok-value : goal.returns-in_ok-value
-returns-in_ok-value g c =
+pub returns-in_ok-value-in-Slot : goal.returns-in_ok-value-in-Slot
+returns-in_ok-value-in-Slot g c =
     let w = c.args.work.now in
     let n = c.args.fill.now in
     let e = held c.args.frame.now in
     let env = holding (g.S.Shelf.slots c.args.shelf.now) in
     let o = loaded (env c.in-Slot.slot) (room n w) in
     record {
-      advances = comes_in c.args.limits env w n c.requires.inside e c.requires.held _ _ e c.requires.held o c.args.step (ap (λ x. step (values c.args.limits env) x (meanings w e) (room n w)) c.in-Slot.is) c.in_ok-value.value c.in_ok-value.ensures.gives _ _ c.push-in-Slot.ensures;
+      advances = comes_in c.args.limits env w n c.requires.inside e c.requires.held _ _ e c.requires.held o c.args.step (ap (λ x. step (values c.args.limits env) x (meanings w e) (room n w)) c.in-Slot.is) c.in_ok-value-in-Slot.value c.in_ok-value-in-Slot.ensures.gives _ _ c.push-in-Slot.ensures;
       same = c.load.ensures.same;
       stays = c.load.ensures.stays;
     }
@@ -56,61 +56,61 @@ returns-in-Local g c =
       stays = c.requires.sound;
     }
 
-pub returns-in_ok-value-2 : goal.returns-in_ok-value-2
-returns-in_ok-value-2 g c =
+pub returns-in_ok-value-in-Keep : goal.returns-in_ok-value-in-Keep
+returns-in_ok-value-in-Keep g c =
     let w = c.args.work.now in
     let n = c.args.fill.now in
     let e = held c.args.frame.now in
     let e₁ = held c.pop.new.self in
     let env = holding (g.S.Shelf.slots c.args.shelf.now) in
     let i = c.in-Keep.local in
-    let v = c.in_ok-value-2.value in
-    let off = c.pop.ensures ∙ ap (λ r. leaving r e₁) c.in_ok-value-2.was in
+    let v = c.in_ok-value-in-Keep.value in
+    let off = c.pop.ensures ∙ ap (λ r. leaving r e₁) c.in_ok-value-in-Keep.was in
     record {
       advances = subst (λ x. Advances c.args.limits env x w n e (Ok tt) w n (kept i v e₁)) (sym c.in-Keep.is) (keep_advances c.args.limits env w n c.requires.inside e c.requires.held i v e₁ off);
       same = λ _. g.S.Shelf.slots c.args.shelf.now;
       stays = c.requires.sound;
     }
 
-pub returns-in_ok-value-3 : goal.returns-in_ok-value-3
-returns-in_ok-value-3 g c =
+pub returns-in_ok-value-in-Apply : goal.returns-in_ok-value-in-Apply
+returns-in_ok-value-in-Apply g c =
     let w = c.args.work.now in
     let n = c.args.fill.now in
     let e = held c.args.frame.now in
     let e₁ = held c.pop-in-Apply.new.self in
     let e₂ = held c.pop-in-Apply-2.new.self in
     let env = holding (g.S.Shelf.slots c.args.shelf.now) in
-    let b = c.in_ok-right.right in
-    let a = c.in_ok-left.left in
-    let q = c.pop-in-Apply.ensures ∙ ap (λ r. leaving r e₁) c.in_ok-right.was in
-    let p = c.pop-in-Apply-2.ensures ∙ ap (λ r. leaving r e₂) c.in_ok-left.was in
+    let b = c.in_ok-right-in-Apply.right in
+    let a = c.in_ok-left-in-Apply.left in
+    let q = c.pop-in-Apply.ensures ∙ ap (λ r. leaving r e₁) c.in_ok-right-in-Apply.was in
+    let p = c.pop-in-Apply-2.ensures ∙ ap (λ r. leaving r e₂) c.in_ok-left-in-Apply.was in
     let rest = (pop_held w n e₁ a e₂ (pop_held w n e b e₁ c.requires.held q).rest p).rest in
     let m = values c.args.limits env in
     let o = applied_in c.args.limits c.in-Apply.op (room n w) (meant w a) (meant w b) in
     record {
-      advances = comes_in c.args.limits env w n c.requires.inside e c.requires.held _ _ e₂ rest o c.args.step (ap (λ x. step m x (meanings w e) (room n w)) c.in-Apply.is ∙ apply_step m (meanings w e) (room n w) c.in-Apply.op (meant w a) (meant w b) (meanings w e₁) (meanings w e₂) (pop_means w n e b e₁ q) (pop_means w n e₁ a e₂ p)) c.in_ok-value-3.value c.in_ok-value-3.ensures _ _ c.push-in-Apply.ensures;
+      advances = comes_in c.args.limits env w n c.requires.inside e c.requires.held _ _ e₂ rest o c.args.step (ap (λ x. step m x (meanings w e) (room n w)) c.in-Apply.is ∙ apply_step m (meanings w e) (room n w) c.in-Apply.op (meant w a) (meant w b) (meanings w e₁) (meanings w e₂) (pop_means w n e b e₁ q) (pop_means w n e₁ a e₂ p)) c.in_ok-value-in-Apply.value c.in_ok-value-in-Apply.ensures _ _ c.push-in-Apply.ensures;
       same = λ _. g.S.Shelf.slots c.args.shelf.now;
       stays = c.requires.sound;
     }
 
-pub returns-in_err-value-3 : goal.returns-in_err-value-3
-returns-in_err-value-3 g c =
+pub returns-in_err-value-in-Apply : goal.returns-in_err-value-in-Apply
+returns-in_err-value-in-Apply g c =
     let w = c.args.work.now in
     let n = c.args.fill.now in
     let e = held c.args.frame.now in
     let e₁ = held c.pop-in-Apply.new.self in
     let e₂ = held c.pop-in-Apply-2.new.self in
     let env = holding (g.S.Shelf.slots c.args.shelf.now) in
-    let b = c.in_ok-right.right in
-    let a = c.in_ok-left.left in
-    let q = c.pop-in-Apply.ensures ∙ ap (λ r. leaving r e₁) c.in_ok-right.was in
-    let p = c.pop-in-Apply-2.ensures ∙ ap (λ r. leaving r e₂) c.in_ok-left.was in
+    let b = c.in_ok-right-in-Apply.right in
+    let a = c.in_ok-left-in-Apply.left in
+    let q = c.pop-in-Apply.ensures ∙ ap (λ r. leaving r e₁) c.in_ok-right-in-Apply.was in
+    let p = c.pop-in-Apply-2.ensures ∙ ap (λ r. leaving r e₂) c.in_ok-left-in-Apply.was in
     let rest = (pop_held w n e₁ a e₂ (pop_held w n e b e₁ c.requires.held q).rest p).rest in
     let m = values c.args.limits env in
     let o = applied_in c.args.limits c.in-Apply.op (room n w) (meant w a) (meant w b) in
-    let x = err_from_is_err_and c.from_residual-in_err-value-3.result c.from_residual-in_err-value-3.ensures.1 in
+    let x = err_from_is_err_and c.from_residual-in_err-value-in-Apply.result c.from_residual-in_err-value-in-Apply.ensures.1 in
     record {
-      advances = refused c.args.limits env w n c.requires.inside e c.requires.held _ _ e₂ rest o c.args.step _ (ap (λ x. step m x (meanings w e) (room n w)) c.in-Apply.is ∙ apply_step m (meanings w e) (room n w) c.in-Apply.op (meant w a) (meant w b) (meanings w e₁) (meanings w e₂) (pop_means w n e b e₁ q) (pop_means w n e₁ a e₂ p)) _ _ _ c.in_err-value-3.ensures (x.1 ∙ ap Err x.2);
+      advances = refused c.args.limits env w n c.requires.inside e c.requires.held _ _ e₂ rest o c.args.step _ (ap (λ x. step m x (meanings w e) (room n w)) c.in-Apply.is ∙ apply_step m (meanings w e) (room n w) c.in-Apply.op (meant w a) (meant w b) (meanings w e₁) (meanings w e₂) (pop_means w n e b e₁ q) (pop_means w n e₁ a e₂ p)) _ _ _ c.in_err-value-in-Apply.ensures (x.1 ∙ ap Err x.2);
       same = λ _. g.S.Shelf.slots c.args.shelf.now;
       stays = c.requires.sound;
     }
@@ -123,7 +123,7 @@ assign_held-requires g c =
     let f₁ = c.pop-in-Assign.new.self in
     let i = c.in-Assign.local in
     let lt : i < length f₁.locals = omega (arith, f₁.eight, local_below i (sym (ap takes c.in-Assign.is) ∙ c.requires.taken)) in
-    let q = c.pop-in-Assign.ensures ∙ ap (λ r. leaving r (held f₁)) c.in_ok-right-2.was in
+    let q = c.pop-in-Assign.ensures ∙ ap (λ r. leaving r (held f₁)) c.in_ok-right-in-Assign.was in
     let off = pop_held w n (held f) _ (held f₁) c.requires.held q in
     record {
       left = local_held w n i value.Unit (held f₁) lt off.rest;
@@ -132,16 +132,16 @@ assign_held-requires g c =
       short = c.requires.short;
     }
 
-pub returns-in_ok-right-2 : goal.returns-in_ok-right-2
-returns-in_ok-right-2 g c =
+pub returns-in_ok-right-in-Assign : goal.returns-in_ok-right-in-Assign
+returns-in_ok-right-in-Assign g c =
     let w = c.args.work.now in
     let n = c.args.fill.now in
     let f = c.args.frame.now in
     let f₁ = c.pop-in-Assign.new.self in
     let i = c.in-Assign.local in
     let lt : i < length f₁.locals = omega (arith, f₁.eight, local_below i (sym (ap takes c.in-Assign.is) ∙ c.requires.taken)) in
-    let b = c.in_ok-right-2.right in
-    let q = c.pop-in-Assign.ensures ∙ ap (λ r. leaving r (held f₁)) c.in_ok-right-2.was in
+    let b = c.in_ok-right-in-Assign.right in
+    let q = c.pop-in-Assign.ensures ∙ ap (λ r. leaving r (held f₁)) c.in_ok-right-in-Assign.was in
     let off = pop_held w n (held f) b (held f₁) c.requires.held q in
     let env = holding (g.S.Shelf.slots c.args.shelf.now) in
     let m = values c.args.limits env in

@@ -4,7 +4,7 @@ use Rattle.value.specs.Kinds.{kinds}
 use Rattle.rule.specs.Sets.{rows_for, gather}
 use Rattle.rule.proofs.Gathers.{gather_in, gather_not, gather_stops, gather_done}
 use Rattle.rule.proofs.sets.select_right.Goals as goal
-use Rattle.rule.proofs.sets.select_right.Goals.{then-has+in-ok-select-in, else-has}
+use Rattle.rule.proofs.sets.select_right.Goals.{then-has+in_ok-select_in, else-has}
 
 pub loop-b-preserved : goal.loop-b-preserved
 loop-b-preserved c =
@@ -12,7 +12,7 @@ loop-b-preserved c =
     let t = c.args.right in
     let i = c.loop-b.b-index in
     elim c.if-has.branch [
-      | then-has+in-ok-select-in w ↦ ap (λ all. gather f t all (drop (i + 1) kinds)) (w.all-is ∙ w.union-all.ensures) ∙ sym (gather_in f t c.loop-b.all kinds i _ c.loop-b-test.true _ (sym w.if-has.ensures) (sym w.in_ok-select_in.ensures)) ∙ c.loop-b.invariant
+      | then-has+in_ok-select_in w ↦ ap (λ all. gather f t all (drop (i + 1) kinds)) (w.all-is ∙ w.union-all.ensures) ∙ sym (gather_in f t c.loop-b.all kinds i _ c.loop-b-test.true _ (sym w.if-has.ensures) (sym w.in_ok-select_in.ensures)) ∙ c.loop-b.invariant
       | else-has w ↦ ap (λ all. gather f t all (drop (i + 1) kinds)) w.all-is ∙ sym (gather_not f t c.loop-b.all kinds i _ c.loop-b-test.true (sym w.if-has.ensures)) ∙ c.loop-b.invariant
     ]
 

@@ -4,7 +4,7 @@ use Rattle.value.specs.Kinds.{kinds}
 use Rattle.rule.specs.Sets.{rows_right, gather}
 use Rattle.rule.proofs.Gathers.{gather_in, gather_not, gather_stops, gather_done}
 use Rattle.rule.proofs.sets.select_sets.Goals as goal
-use Rattle.rule.proofs.sets.select_sets.Goals.{then-has+in-ok-select-right, else-has}
+use Rattle.rule.proofs.sets.select_sets.Goals.{then-has+in_ok-select_right, else-has}
 
 pub loop-a-preserved : goal.loop-a-preserved
 loop-a-preserved c =
@@ -12,7 +12,7 @@ loop-a-preserved c =
     let t = c.args.left in
     let i = c.loop-a.a-index in
     elim c.if-has.branch [
-      | then-has+in-ok-select-right w ↦ ap (λ all. gather f t all (drop (i + 1) kinds)) (w.all-is ∙ w.union-all.ensures) ∙ sym (gather_in f t c.loop-a.all kinds i _ c.loop-a-test.true _ (sym w.if-has.ensures) (sym w.in_ok-select_right.ensures)) ∙ c.loop-a.invariant
+      | then-has+in_ok-select_right w ↦ ap (λ all. gather f t all (drop (i + 1) kinds)) (w.all-is ∙ w.union-all.ensures) ∙ sym (gather_in f t c.loop-a.all kinds i _ c.loop-a-test.true _ (sym w.if-has.ensures) (sym w.in_ok-select_right.ensures)) ∙ c.loop-a.invariant
       | else-has w ↦ ap (λ all. gather f t all (drop (i + 1) kinds)) w.all-is ∙ sym (gather_not f t c.loop-a.all kinds i _ c.loop-a-test.true (sym w.if-has.ensures)) ∙ c.loop-a.invariant
     ]
 

@@ -9,7 +9,11 @@ invariant_of-self c =
     let r = c.args.self.now in
     let lt : r.count < 128 = omega (arith, c.if-self-ge128.false) in
     let t = sym c.test.ensures ∙ c.in_ok-test.was in
-    (omega arith, (length-set r.steps r.count c.args.step ∙ r.size, (taken_more r.steps r.count c.args.step r.size lt t r.taken, tt)))
+    record {
+      few = omega arith;
+      size = length-set r.steps r.count c.args.step ∙ r.size;
+      taken = taken_more r.steps r.count c.args.step r.size lt t r.taken;
+    }
 
 pub returns-else-self-ge128 : goal.returns-else-self-ge128
 returns-else-self-ge128 c =
