@@ -7,13 +7,13 @@ use Rattle.desk.specs.declared.call.Reply.TheVariants as reply
 use Rattle.desk.proofs.Serving.{told_tells}
 use Rattle.desk.proofs.desk.Desk.answer.Goals as goal
 
-pub returns-in_ok-value : goal.returns-in_ok-value
-returns-in_ok-value g c =
+pub returns-in_ok-value-in-Tell : goal.returns-in_ok-value-in-Tell
+returns-in_ok-value-in-Tell g c =
     let d = c.args.self.now in
     let ss = g.S.Shelf.slots d.shelf in
     let w = c.args.work.now in
-    let v = c.in_ok-value.value in
-    let t = told_tells w c.in-Tell.place ss c.in-Tell.slot v _ (sym c.tell.ensures.answer ∙ c.in_ok-value.was) c.tell.ensures.bytes in
+    let v = c.in_ok-value-in-Tell.value in
+    let t = told_tells w c.in-Tell.place ss c.in-Tell.slot v _ (sym c.tell.ensures.answer ∙ c.in_ok-value-in-Tell.was) c.tell.ensures.bytes in
     record {
       answer = ap (λ k. answered (desk_of ss d.rule) (event k) w) c.in-Tell.is ∙ t.outcome;
       after = ap (λ s. writing s (rule_of d.rule)) c.tell.ensures.same ∙ sym (ap (λ k. feed (desk_of ss d.rule) (event k)) c.in-Tell.is);
