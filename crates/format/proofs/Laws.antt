@@ -4,11 +4,11 @@ use lib.Utf8.{encode}
 use Rattle.std.specs.List.{AllByRecursion as All}
 use Rattle.value.specs.Values.{Meaning, unit, bool, int, float, char, str, blob, excl, incl}
 use Rattle.format.specs.Fields.{fields, onto}
-use Rattle.format.specs.Reading.{Readable}
+use Rattle.format.specs.Reading.{ReadableIn}
 use Rattle.format.specs.Written.{written}
 use Rattle.format.proofs.Hex.{length_pairs}
 
-pub readable_in : (room room' : ℕ) (m : Meaning) → length (written m) ≤ 2 * room' → Readable room m → Readable room' m
+pub readable_in : (room room' : ℕ) (m : Meaning) → length (written m) ≤ 2 * room' → ReadableIn room m → ReadableIn room' m
 readable_in room room' unit h f = tt
 readable_in room room' (bool b) h f = tt
 readable_in room room' (int n) h f = f

@@ -17,9 +17,12 @@ use Rattle.value.specs.Kinds.{kind_number}
 use Rattle.value.specs.Values.{Meaning, unit, bool, int, float, char, str, blob, excl, incl, kind_in}
 use Rattle.value.specs.declared.kind.Kind.{Kind}
 use Rattle.value.specs.declared.kind.Kind.TheVariants as kind
+use Rattle.std.proofs.Common.{Some, None, Option}
+use Rattle.value.specs.declared.value.Value.{Value}
+use Rattle.value.proofs.Laws.{kind_meaning}
 use Rattle.format.proofs.Floats.{un, un_figure}
 use Rattle.format.specs.Written.{figure, pairs, written}
-use Rattle.format.specs.Reading.{Bytes, Readable}
+use Rattle.format.specs.Reading.{Bytes, Readable, ReadableIn, ReadsValue, ReadsValueAs}
 
 -- ---- a value of a kind, by what it holds
 
@@ -57,10 +60,10 @@ data_of (excl a b) = ((a, b), refl)
 data_of (incl a b) = ((a, b), refl)
 
 -- no value of kind k is written so
-pub none_of : (room : ℕ) (bs : List ℕ) (k j : Kind) → j ≡ k → ((d : Data k) → Readable room (holding k d) → written (holding k d) ≡ bs → ⊥) → (m : Meaning) → (kind_in m ≡ j) × Readable room m → written m ≡ bs → ⊥
+pub none_of : (room : ℕ) (bs : List ℕ) (k j : Kind) → j ≡ k → ((d : Data k) → ReadableIn room (holding k d) → written (holding k d) ≡ bs → ⊥) → (m : Meaning) → (kind_in m ≡ j) × ReadableIn room m → written m ≡ bs → ⊥
 none_of room bs k j q h m f e =
     let p = subst (λ (i : Kind). (d : Data i) × (m ≡ holding i d)) (f.0 ∙ q) (data_of m) in
-    h p.0 (subst (Readable room) p.1 f.1) (sym (ap written p.1) ∙ e)
+    h p.0 (subst (ReadableIn room) p.1 f.1) (sym (ap written p.1) ∙ e)
 
 -- ---- what `same` finds
 pub same_is : (xs ys : List ℕ) → true ≡ bytes_eq xs ys → xs ≡ ys
@@ -111,3 +114,20 @@ span_short buffer s = simp (length-take, length-drop) (omega arith)
 -- the bytes of a part of a buffer
 pub span_bytes : (buffer : List ℕ) (s : Span) → ((i : ℕ) → get_or buffer i 0 < 256) → Bytes (span_text buffer s)
 span_bytes buffer s h = All-take (λ b. b < 256) s.len (drop s.start buffer) (All-drop (λ b. b < 256) s.start buffer (All-from_get_or (λ b. b < 256) buffer 0 (λ i _. h i)))
+
+-- ---- what is read with a char's own room is read with room for any
+
+room_enough : (room : ℕ) (m : Meaning) → Readable room m → ReadableIn room m
+room_enough room unit f = tt
+room_enough room (bool b) f = tt
+room_enough room (int n) f = f
+room_enough room (float x) f = f
+room_enough room (char c) f = (f.0, omega (arith, f.1, encode_short c))
+room_enough room (str t) f = f
+room_enough room (blob t) f = f
+room_enough room (excl a b) f = f
+room_enough room (incl a b) f = f
+
+pub reads_value : {k : Kind} {bs buffer : List ℕ} {r : Option (Value Span)} → ReadsValueAs k bs buffer r → ReadsValue k bs buffer r
+reads_value {buffer = buffer} {r = None} p = λ m q f e. p.reads m (q, room_enough (length buffer) m f) e
+reads_value {buffer = buffer} {r = Some v} p = (sym (kind_meaning (span_text buffer) v) ∙ p.reads.0.0, p.reads.1, p.lies)

@@ -49,12 +49,12 @@ abbrev pub named : {A : Type 0} → (A → List ℕ) → List A → List ℕ →
 named name [] bs = None
 named name (x ∷ xs) bs = cond (bytes_eq bs (name x)) (Some x) (named name xs bs)
 
-unfoldable pub kind_named : List ℕ → Option Kind
+abbrev pub kind_named : List ℕ → Option Kind
 kind_named bs = named kind_name kinds bs
 
-unfoldable pub op_named : List ℕ → Option Op
+abbrev pub op_named : List ℕ → Option Op
 op_named bs = named op_name ops bs
 
 -- the first eleven assign
-unfoldable pub assign_named : List ℕ → Option Op
+abbrev pub assign_named : List ℕ → Option Op
 assign_named bs = named assign_name (take 11 ops) bs

@@ -11,16 +11,21 @@ use Rattle.std.specs.Option.{option_map}
 use Rattle.text.specs.Buffers.{span_text, within}
 use Rattle.text.specs.Scalars.{utf8}
 use Rattle.text.specs.declared.span.Span.{Span}
-use Rattle.value.specs.Values.{Meaning, unit, bool, int, float, char, str, blob, excl, incl, kind_in, meant, text_in, Inside}
+use Rattle.value.specs.Values.{Meaning, unit, bool, int, float, char, str, blob, excl, incl, kind_in, kind_of, meant, text_in, Inside}
 use Rattle.value.specs.declared.kind.Kind.{Kind}
 use Rattle.value.specs.declared.value.Range.{Range}
 use Rattle.value.specs.declared.value.Value.{Value}
 use Rattle.format.specs.Written.{pairs, written}
 
 -- r is what bs is written of, among those that are Of a type, or none where there is no such
-abbrev pub Reads : {V B : Type 0} → (V → Type 0) → (V → B) → B → Option V → Type 0
+abbrev pub Reads : {V : Type 0} → (V → Type 0) → (V → List ℕ) → List ℕ → Option V → Type 0
 Reads Of writing bs None = (v : _) → Of v → writing v ≢ bs
-Reads Of writing bs (Some v) = Of v × (writing v ≡ bs)
+Reads Of writing bs (Some v) = writing v ≡ bs
+
+-- the same, of anything that is written so, and what is read is Of the type
+abbrev pub ReadsAs : {V B : Type 0} → (V → Type 0) → (V → B) → B → Option V → Type 0
+ReadsAs Of writing bs None = (v : _) → Of v → writing v ≢ bs
+ReadsAs Of writing bs (Some v) = Of v × (writing v ≡ bs)
 
 -- no plus, and no zero in front of a digit or behind a minus
 abbrev pub Short : List ℕ → Type 0
@@ -39,11 +44,23 @@ Readable room unit = Unit {0}
 Readable room (bool b) = Unit {0}
 Readable room (int n) = FitsSigned w64 n
 Readable room (float x) = Number x
-Readable room (char c) = (scalar c ≡ true) × (length (encode c) ≤ room)
+Readable room (char c) = (scalar c ≡ true) × (4 ≤ room)
 Readable room (str bs) = (utf8 bs ≡ true) × Bytes bs × (length bs ≤ room)
 Readable room (blob bs) = Bytes bs × (length bs ≤ room)
 Readable room (excl a b) = FitsSigned w64 a × FitsSigned w64 b
 Readable room (incl a b) = FitsSigned w64 a × FitsSigned w64 b
+
+-- the same, where a char needs as much room as its own bytes
+abbrev pub ReadableIn : ℕ → Meaning → Type 0
+ReadableIn room unit = Unit {0}
+ReadableIn room (bool b) = Unit {0}
+ReadableIn room (int n) = FitsSigned w64 n
+ReadableIn room (float x) = Number x
+ReadableIn room (char c) = (scalar c ≡ true) × (length (encode c) ≤ room)
+ReadableIn room (str bs) = (utf8 bs ≡ true) × Bytes bs × (length bs ≤ room)
+ReadableIn room (blob bs) = Bytes bs × (length bs ≤ room)
+ReadableIn room (excl a b) = FitsSigned w64 a × FitsSigned w64 b
+ReadableIn room (incl a b) = FitsSigned w64 a × FitsSigned w64 b
 
 -- a range by both ends
 abbrev pub ends : Range → List ℕ
@@ -52,14 +69,22 @@ ends r = signed_decimal r.from ++ (44 ∷ signed_decimal r.to)
 abbrev pub ReadsEnds : List ℕ → Option Range → Type 0
 ReadsEnds bs r = Reads (λ e. FitsSigned w64 e.from × FitsSigned w64 e.to) ends bs r
 
+abbrev pub ReadsEndsAs : List ℕ → Option Range → Type 0
+ReadsEndsAs bs r = ReadsAs (λ e. FitsSigned w64 e.from × FitsSigned w64 e.to) ends bs r
+
 -- a text by the pairs of its bytes, in a buffer
 abbrev pub ReadsText : List ℕ → List ℕ → Option Span → Type 0
 ReadsText bs buffer None = (t : List ℕ) → Bytes t → length t ≤ length buffer → pairs t ≢ bs
 ReadsText bs buffer (Some s) = (pairs (span_text buffer s) ≡ bs) × within s (length buffer) × Bytes (span_text buffer s)
 
+-- bs is read as a value of kind k, with its text in the buffer, or there is no such value
+abbrev pub ReadsValue : Kind → List ℕ → List ℕ → Option (Value Span) → Type 0
+ReadsValue k bs buffer None = (m : Meaning) → kind_in m ≡ k → Readable (length buffer) m → written m ≢ bs
+ReadsValue k bs buffer (Some v) = (kind_of v ≡ k) × (written (meant buffer v) ≡ bs) × Inside (length buffer) (text_in v)
+
 -- bs is read as a value of kind k with at most `room` bytes of text, or there is no such value
 abbrev pub ReadsKind : ℕ → Kind → List ℕ → Option Meaning → Type 0
-ReadsKind room k bs o = Reads (λ m. (kind_in m ≡ k) × Readable room m) written bs o
+ReadsKind room k bs o = ReadsAs (λ m. (kind_in m ≡ k) × ReadableIn room m) written bs o
 
 -- a value's text, if it has one, lies in the buffer
 abbrev pub LiesIn : List ℕ → Option (Value Span) → Type 0
@@ -67,6 +92,6 @@ LiesIn buffer None = Unit {0}
 LiesIn buffer (Some v) = Inside (length buffer) (text_in v)
 
 -- the same of a value with its text in the buffer
-pub record ReadsValue (k : Kind) (bs buffer : List ℕ) (r : Option (Value Span)) : Type 0 where
+pub record ReadsValueAs (k : Kind) (bs buffer : List ℕ) (r : Option (Value Span)) : Type 0 where
   pub reads : ReadsKind (length buffer) k bs (option_map (meant buffer) r)
   pub lies : LiesIn buffer r

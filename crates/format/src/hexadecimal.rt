@@ -1,7 +1,7 @@
 // Hexadecimal digits, lower case.
 ghost use Rattle.std.specs.Prelude.{◌≡◌, ℕ, ◌^◌, ◌<◌, ◌≤◌, List, length, take, drop, MatchOption, ◌≢◌};
 ghost use Rattle.format.specs.Written.{figure, figures, pairs};
-ghost use Rattle.format.specs.Reading.{Reads, Bytes};
+ghost use Rattle.format.specs.Reading.{Reads, ReadsAs, Bytes};
 
 fn hex_digit(b: u8) -> Option<u8>
     ensures { MatchOption result ((d : ℕ) → d < 16 → figure d ≢ b) (λ d. (d < 16) × (figure d ≡ b)) }
@@ -14,7 +14,8 @@ fn hex_digit(b: u8) -> Option<u8>
 }
 
 pub fn read_bits(bytes: &[u8]) -> Option<u64>
-    ensures { Reads (λ n. n < 2 ^ 64) (figures 16) bytes.now result }
+    ensures reads { Reads (λ n. n < 2 ^ 64) (figures 16) bytes.now result }
+    ensures exact { ReadsAs (λ n. n < 2 ^ 64) (figures 16) bytes.now result }
 {
     if bytes.len() != 16 {
         return None;

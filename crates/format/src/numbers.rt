@@ -2,7 +2,7 @@
 ghost use Rattle.std.specs.Prelude.{◌≡◌, ◌^◌, ◌<◌, decimal, Decides, FitsSigned, slice_index};
 ghost use Rattle.std.specs.Int.{w64};
 ghost use Rattle.std.specs.Fmt.{signed_decimal};
-ghost use Rattle.format.specs.Reading.{Reads, Short};
+ghost use Rattle.format.specs.Reading.{Reads, ReadsAs, Short};
 
 fn byte_at(bytes: &[u8], i: usize) -> u8
     ensures { result ≡ slice_index bytes.now i }
@@ -25,7 +25,8 @@ fn is_short(bytes: &[u8]) -> bool
 }
 
 pub fn read_int(bytes: &[u8]) -> Option<i64>
-    ensures { Reads (FitsSigned w64) signed_decimal bytes.now result }
+    ensures reads { Reads (FitsSigned w64) signed_decimal bytes.now result }
+    ensures exact { ReadsAs (FitsSigned w64) signed_decimal bytes.now result }
 {
     if !is_short(bytes) {
         return None;
@@ -40,7 +41,8 @@ pub fn read_int(bytes: &[u8]) -> Option<i64>
 }
 
 pub fn read_slot(bytes: &[u8]) -> Option<u32>
-    ensures { Reads (λ n. n < 2 ^ 32) decimal bytes.now result }
+    ensures reads { Reads (λ n. n < 2 ^ 32) decimal bytes.now result }
+    ensures exact { ReadsAs (λ n. n < 2 ^ 32) decimal bytes.now result }
 {
     if !is_short(bytes) {
         return None;
@@ -56,7 +58,8 @@ pub fn read_slot(bytes: &[u8]) -> Option<u32>
 
 // A local, 0 to 7.
 pub fn read_local(bytes: &[u8]) -> Option<u8>
-    ensures { Reads (λ n. n < 8) decimal bytes.now result }
+    ensures reads { Reads (λ n. n < 8) decimal bytes.now result }
+    ensures exact { ReadsAs (λ n. n < 8) decimal bytes.now result }
 {
     match read_slot(bytes) {
         Some(n) if n < 8 => Some(n as u8),

@@ -2,7 +2,7 @@
 ghost use Rattle.std.specs.Prelude.{◌≡◌, true, to_bits};
 ghost use Rattle.std.specs.Float.{binary64};
 ghost use Rattle.std.proofs.Math.Utf8.{encode, scalar};
-ghost use Rattle.format.specs.Reading.{Reads, Number, ReadsEnds, ReadsText, ReadsValue};
+ghost use Rattle.format.specs.Reading.{Reads, ReadsAs, Number, ReadsEnds, ReadsEndsAs, ReadsText, ReadsValue, ReadsValueAs};
 ghost use Rattle.format.specs.Written.{floated};
 
 use crate::cuts::{cut_at, same};
@@ -13,7 +13,8 @@ use value::{Kind, Range, Value};
 
 // No NaN.
 pub fn read_float(bytes: &[u8]) -> Option<f64>
-    ensures { Reads Number floated bytes.now result }
+    ensures reads { Reads Number floated bytes.now result }
+    ensures exact { ReadsAs Number floated bytes.now result }
 {
     let Some(bits) = read_bits(bytes) else {
         return None;
@@ -37,7 +38,8 @@ pub fn float_bits(x: f64) -> u64
 
 // The char that the bytes are the UTF-8 of.
 pub fn read_char(bytes: &[u8]) -> Option<char>
-    ensures { Reads (λ c. scalar c ≡ true) encode bytes.now result }
+    ensures reads { Reads (λ c. scalar c ≡ true) encode bytes.now result }
+    ensures exact { ReadsAs (λ c. scalar c ≡ true) encode bytes.now result }
 {
     let Ok(text) = std::str::from_utf8(bytes) else {
         return None;
@@ -54,7 +56,8 @@ pub fn read_char(bytes: &[u8]) -> Option<char>
 
 // Two ends with a comma between.
 pub fn read_range(bytes: &[u8]) -> Option<Range>
-    ensures { ReadsEnds bytes.now result }
+    ensures reads { ReadsEnds bytes.now result }
+    ensures exact { ReadsEndsAs bytes.now result }
 {
     let ends = cut_at(bytes, b',');
     let Some(rest) = ends.rest else {
@@ -81,7 +84,8 @@ fn read_text(bytes: &[u8], buffer: &mut [u8]) -> Option<Span>
 
 // A value of the kind, with its text in the front of the buffer.
 pub fn read_value(kind: Kind, bytes: &[u8], buffer: &mut [u8]) -> Option<Value<Span>>
-    ensures { ReadsValue kind bytes.now buffer.new result }
+    ensures reads { ReadsValue kind bytes.now buffer.new result }
+    ensures exact { ReadsValueAs kind bytes.now buffer.new result }
 {
     match kind {
         Kind::Unit => {

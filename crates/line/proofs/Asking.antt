@@ -13,16 +13,16 @@ use Rattle.steps.specs.Steps.{takes_literal}
 use Rattle.steps.specs.declared.step.Step.TheVariants.{Put}
 use Rattle.desk.specs.Book as book
 use Rattle.format.specs.Written.{written}
-use Rattle.format.specs.Reading.{Readable, ReadsKind}
+use Rattle.format.specs.Reading.{ReadableIn, ReadsKind}
 use Rattle.format.proofs.Laws.{readable_in}
 use Rattle.line.specs.Asked.{ReadsSlot, ReadsPosting, ReadsLiteral, AsksPost, AsksPut}
 
 module _ (k : Kind) (o : Option Kind) (named : Some k ≡ o) (v buffer : List ℕ) (short : length v ≤ 4096) where
   -- what is read in a buffer is readable at all
-  at_all : (m : Meaning) → written m ≡ v → Readable (length buffer) m → Readable 65536 m
+  at_all : (m : Meaning) → written m ≡ v → ReadableIn (length buffer) m → ReadableIn 65536 m
   at_all m e = readable_in (length buffer) 65536 m (omega (arith, ap length e))
 
-  in_buffer : 2048 ≤ length buffer → (m : Meaning) → written m ≡ v → Readable 65536 m → Readable (length buffer) m
+  in_buffer : 2048 ≤ length buffer → (m : Meaning) → written m ≡ v → ReadableIn 65536 m → ReadableIn (length buffer) m
   in_buffer room m e = readable_in 65536 (length buffer) m (omega (arith, ap length e))
 
   module _ (s : List ℕ) where
@@ -65,7 +65,7 @@ module _ (k : Kind) (o : Option Kind) (named : Some k ≡ o) (v buffer : List �
         subst (λ p. AsksPut v p (Ok (book.add (Put x)))) named (record {
           found = Some x;
           is = (
-            (subst (λ j. takes_literal j ≡ Ok tt) of_kind_lem h, of_kind_lem, subst (Readable 65536) same (at_all (meant buffer x) reads.1 reads.0.1)),
+            (subst (λ j. takes_literal j ≡ Ok tt) of_kind_lem h, of_kind_lem, subst (ReadableIn 65536) same (at_all (meant buffer x) reads.1 reads.0.1)),
             ap written (sym same) ∙ reads.1,
           );
           asks = refl;

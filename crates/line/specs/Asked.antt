@@ -17,7 +17,7 @@ use Rattle.desk.specs.Book.{Event}
 use Rattle.desk.specs.Book as book
 use Rattle.format.specs.Names.{kind_named, op_named, assign_named}
 use Rattle.format.specs.Written.{written}
-use Rattle.format.specs.Reading.{Reads, Readable}
+use Rattle.format.specs.Reading.{ReadsAs, ReadableIn}
 use Rattle.line.specs.Forms.{Spelled, post, clear, check, run, put, slot, local, keep, op, set}
 
 -- a run without limits on the sizes of texts
@@ -31,18 +31,18 @@ pub record Calls {V : Type 0} (reads : Option V → Type 0) (call : V → Event)
   pub asks : r ≡ ok_or (option_map call found) f
 
 abbrev pub ReadsSlot : List ℕ → Option ℕ → Type 0
-ReadsSlot bs o = Reads (λ n. n < 2 ^ 32) decimal bs o
+ReadsSlot bs o = ReadsAs (λ n. n < 2 ^ 32) decimal bs o
 
 abbrev pub ReadsLocal : List ℕ → Option ℕ → Type 0
-ReadsLocal bs o = Reads (λ n. n < 8) decimal bs o
+ReadsLocal bs o = ReadsAs (λ n. n < 8) decimal bs o
 
 -- a slot and a value of kind k, of two fields
 abbrev pub ReadsPosting : Kind → List ℕ → List ℕ → Option (ℕ × Meaning) → Type 0
-ReadsPosting k s v o = Reads (λ p. (p.0 < 2 ^ 32) × (kind_in p.1 ≡ k) × Readable 65536 p.1) (λ p. decimal p.0 ∷ written p.1 ∷ []) (s ∷ v ∷ []) o
+ReadsPosting k s v o = ReadsAs (λ p. (p.0 < 2 ^ 32) × (kind_in p.1 ≡ k) × ReadableIn 65536 p.1) (λ p. decimal p.0 ∷ written p.1 ∷ []) (s ∷ v ∷ []) o
 
 -- a literal of kind k
 abbrev pub ReadsLiteral : Kind → List ℕ → Option (Value Span) → Type 0
-ReadsLiteral k v o = Reads (λ x. (takes_literal k ≡ Ok tt) × (kind_of x ≡ k) × Readable 65536 (meant [] x)) (λ x. written (meant [] x)) v o
+ReadsLiteral k v o = ReadsAs (λ x. (takes_literal k ≡ Ok tt) × (kind_of x ≡ k) × ReadableIn 65536 (meant [] x)) (λ x. written (meant [] x)) v o
 
 abbrev pub AsksPost : List ℕ → List ℕ → Option Kind → Result Event Fault → Type 0
 AsksPost s v None r = r ≡ Err Unknown

@@ -14,7 +14,7 @@ use Rattle.routines.specs.Outcomes.{settled, Settles}
 use Rattle.routines.specs.declared.made.Made.{Made}
 use Rattle.routines.specs.declared.made.Made.TheVariants.{New}
 use Rattle.operators.proofs.Roomed.{inside_more}
-use Rattle.operators.specs.Applied.{tried, alone, Alone}
+use Rattle.operators.specs.Applied.{tried, alone, Alone, NewWithin}
 
 unbound : (r : Result (Value Span) Fault) (v : Value Span) → bind r (λ x. Ok (New x)) ≡ Ok (New v) → r ≡ Ok v
 unbound (Ok x) v q = let same : x ≡ v = cc in ap Ok same
@@ -33,7 +33,6 @@ module _ (buffer : List ℕ) (a b : Meaning) (given : Result Given Fault) where
       record {
         answer = ap (λ g. (alone buffer g).answer) w;
         bytes = sym (take-append-drop 65536 buffer) ∙ ap (λ g. (alone buffer g).bytes) w;
-        inside = λ v q. absurd (let z : ◌≡◌ {A = ℕ} 0 1 = cc in omega arith);
       }
 
   pub settled_alone : (n : ℕ) (r : Result Made Fault) (after : List ℕ) → n ≡ min (length buffer) 65536 → true ≡ (well_formed a && well_formed b) → Settles (take n buffer) 0 given r after → Alone buffer (tried a b given) r (after ++ drop n buffer)
@@ -43,6 +42,12 @@ module _ (buffer : List ℕ) (a b : Meaning) (given : Result Given Fault) where
       record {
         answer = s.answer ∙ ap (λ d. (settled d 0 given).answer) t ∙ ap (λ g. (alone buffer g).answer) w;
         bytes = ap (λ z. z ++ drop n buffer) (s.bytes ∙ ap (λ d. (settled d 0 given).bytes) t) ∙ ap (λ z. (settled (take 65536 buffer) 0 given).bytes ++ z) (drop_first buffer n 65536 e) ∙ ap (λ g. (alone buffer g).bytes) w;
-        inside = λ v q. inside_more (length after) (length (after ++ drop n buffer)) (text_in v) (omega (arith, length-append after (drop n buffer)))
-            (subst (λ z. Inside (length z) (text_in v)) (sym s.bytes) (settled_inside (take n buffer) given v (sym s.answer ∙ q)));
       }
+
+pub refused_within : (f : Fault) (buffer : List ℕ) → NewWithin (Err f) buffer
+refused_within f buffer v q = absurd (let z : ◌≡◌ {A = ℕ} 0 1 = cc in omega arith)
+
+pub settled_within : (buffer : List ℕ) (given : Result Given Fault) (n : ℕ) (r : Result Made Fault) (after : List ℕ) → Settles (take n buffer) 0 given r after → NewWithin r (after ++ drop n buffer)
+settled_within buffer given n r after s v q =
+    inside_more (length after) (length (after ++ drop n buffer)) (text_in v) (omega (arith, length-append after (drop n buffer)))
+    (subst (λ z. Inside (length z) (text_in v)) (sym s.bytes) (settled_inside (take n buffer) given v (sym s.answer ∙ q)))

@@ -61,8 +61,11 @@ alone buffer given =
     let o = settled (take 65536 buffer) 0 given in
     record { answer = o.answer; bytes = o.bytes ++ drop 65536 buffer }
 
--- an operator alone that comes to `given` answers r and leaves these bytes; a new value's text lies in the buffer
+-- an operator alone that comes to `given` answers r and leaves these bytes
 pub record Alone (buffer : List ℕ) (given : Result Given Fault) (r : Result Made Fault) (after : List ℕ) : Type 0 where
   pub answer : r ≡ (alone buffer given).answer
   pub bytes : after ≡ (alone buffer given).bytes
-  pub inside : (v : Value Span) → r ≡ Ok (New v) → Inside (length after) (text_in v)
+
+-- a new value's text lies in the buffer
+abbrev pub NewWithin : Result Made Fault → List ℕ → Type 0
+NewWithin r after = (v : Value Span) → r ≡ Ok (New v) → Inside (length after) (text_in v)

@@ -2,7 +2,7 @@
 ghost use Rattle.std.specs.Prelude.{◌≡◌, ℕ, true, ◌&&◌, List};
 ghost use Rattle.value.specs.Values.{meaning, well_formed};
 ghost use Rattle.routines.specs.Outcomes.{operand, Ready};
-ghost use Rattle.operators.specs.Applied.{applied, applied_assign, tried, Alone};
+ghost use Rattle.operators.specs.Applied.{applied, applied_assign, tried, Alone, NewWithin};
 ghost use Rattle.operators.specs.Listed.{ApplyAsSelected};
 
 use crate::operate::{operate, operate_assign};
@@ -39,6 +39,7 @@ pub fn apply(
     buffer: &mut [u8],
 ) -> Result<Made, Fault>
     ensures alone { Alone buffer.old (tried (meaning (λ x. x.now) left.entry) (meaning (λ x. x.now) right.entry) (applied limits op (meaning (λ x. x.now) left.entry) (meaning (λ x. x.now) right.entry))) result buffer.new }
+    ensures within { NewWithin result buffer.new }
     ensures listed { ApplyAsSelected }
 {
     if !are_well_formed(left, right) {
@@ -64,6 +65,7 @@ pub fn apply_assign(
     buffer: &mut [u8],
 ) -> Result<Made, Fault>
     ensures alone { Alone buffer.old (tried (meaning (λ x. x.now) left.entry) (meaning (λ x. x.now) right.entry) (applied_assign limits op (meaning (λ x. x.now) left.entry) (meaning (λ x. x.now) right.entry))) result buffer.new }
+    ensures within { NewWithin result buffer.new }
     ensures listed { ApplyAsSelected }
 {
     if !are_well_formed(left, right) {

@@ -3,8 +3,8 @@ use Rattle.format.specs.Written.{figure}
 use Rattle.format.proofs.Hex.{bits_more, bits_fit, bits_below, bits_none, bits_all, bits_whole}
 use Rattle.format.proofs.hexadecimal.read_bits.Goals as goal
 
-pub returns-in_default : goal.returns-in_default
-returns-in_default c = λ v f e. bits_none c.args.bytes.now c.loop-b.b-index v (omega arith) e c.in_default.ensures
+pub returns-in_default-clause-exact : goal.returns-in_default-clause-exact
+returns-in_default-clause-exact c = λ v f e. bits_none c.args.bytes.now c.loop-b.b-index v (omega arith) e c.in_default.ensures
 
 pub overflow_mul-n : goal.overflow_mul-n
 overflow_mul-n c =
@@ -22,7 +22,13 @@ loop-b-preserved c =
       bits_fit c.loop-b.b-index c.loop-b.n c.from.result c.loop-b.invariant.1 d,
     )
 
-pub returns : goal.returns
-returns c =
+pub returns-clause-exact : goal.returns-clause-exact
+returns-clause-exact c =
     let h : c.loop-b.n < 2 ^ 64 = omega (arith, bits_whole c.loop-b.b-index c.loop-b.n (omega arith) c.loop-b.invariant.1) in
     (h, bits_all c.args.bytes.now c.loop-b.b-index c.loop-b.n (omega arith) (omega arith) c.loop-b.invariant.0)
+
+pub returns-in_default-clause-reads : goal.returns-in_default-clause-reads
+returns-in_default-clause-reads c = returns-in_default-clause-exact c
+
+pub returns-clause-reads : goal.returns-clause-reads
+returns-clause-reads c = (returns-clause-exact c).1

@@ -7,7 +7,6 @@ use Rattle.format.proofs.Naming.{named_hit, named_more, named_none}
 use Rattle.format.proofs.names.assign_named.Goals as goal
 
 pub loop-i-init : goal.loop-i-init
-unfolding assign_named
 loop-i-init c = refl
 
 pub returns-then-is_assign_name : goal.returns-then-is_assign_name

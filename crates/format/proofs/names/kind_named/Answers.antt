@@ -5,7 +5,6 @@ use Rattle.format.proofs.Naming.{named_hit, named_more, named_none}
 use Rattle.format.proofs.names.kind_named.Goals as goal
 
 pub loop-kind-init : goal.loop-kind-init
-unfolding kind_named
 loop-kind-init c = refl
 
 pub returns-then-same : goal.returns-then-same

@@ -5,7 +5,6 @@ use Rattle.format.proofs.Naming.{named_hit, named_more, named_none}
 use Rattle.format.proofs.names.op_named.Goals as goal
 
 pub loop-op-init : goal.loop-op-init
-unfolding op_named
 loop-op-init c = refl
 
 pub returns-then-same : goal.returns-then-same

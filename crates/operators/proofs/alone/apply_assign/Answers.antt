@@ -5,11 +5,11 @@ use Rattle.value.specs.Values.{meaning, well_formed}
 use Rattle.routines.proofs.Laws.{settles_as}
 use Rattle.operators.specs.Applied.{applied_assign}
 use Rattle.operators.proofs.Selecting.{apply_as_selected}
-use Rattle.operators.proofs.FirstBytes.{malformed, settled_alone}
+use Rattle.operators.proofs.FirstBytes.{malformed, settled_alone, refused_within, settled_within}
 use Rattle.operators.proofs.alone.apply_assign.Goals as goal
 
 pub returns-then-not-are_well_formed : goal.returns-then-not-are_well_formed
-returns-then-not-are_well_formed c = record { listed = apply_as_selected; alone = malformed c.args.buffer.now (meaning (λ x. x.now) c.args.left) (meaning (λ x. x.now) c.args.right) _ c.if-not-are_well_formed.ensures }
+returns-then-not-are_well_formed c = record { listed = apply_as_selected; alone = malformed c.args.buffer.now (meaning (λ x. x.now) c.args.left) (meaning (λ x. x.now) c.args.right) _ c.if-not-are_well_formed.ensures; within = refused_within _ _ }
 
 pub operate_assign-requires : goal.operate_assign-requires
 operate_assign-requires c =
@@ -22,8 +22,9 @@ returns c =
     let n = c.min-room.result - 0 in
     let a = c.as_operand.ensures.same (take n d) in
     let b = c.as_operand-2.ensures.same (take n d) in
+    let s = settles_as (sym (λ i. applied_assign c.args.limits c.args.op (a i) (b i))) c.operate_assign.ensures in
     record {
       listed = apply_as_selected;
-      alone = settled_alone d (meaning (λ x. x.now) c.args.left) (meaning (λ x. x.now) c.args.right) _ n _ _ (sub-zero c.min-room.result ∙ c.min-room.ensures) c.if-not-are_well_formed.ensures
-          (settles_as (sym (λ i. applied_assign c.args.limits c.args.op (a i) (b i))) c.operate_assign.ensures);
+      alone = settled_alone d (meaning (λ x. x.now) c.args.left) (meaning (λ x. x.now) c.args.right) _ n _ _ (sub-zero c.min-room.result ∙ c.min-room.ensures) c.if-not-are_well_formed.ensures s;
+      within = settled_within d _ n _ _ s;
     }
