@@ -1,5 +1,5 @@
 -- What the book keeps of a passed rule is what the last accepted check found.
-use Rattle.std.proofs.Common.{◌≡◌, ℕ, Bool, true, false, ◌⊎◌, List, [], ◌∷◌, ◌++◌, is_ok, Some, None, Ok, Err, Option, Result, sym, refl, ap, ◌∙◌, subst, inl, inr, ⊎_elim, arith}
+use Rattle.std.proofs.Common.{◌≡◌, ℕ, true, ◌⊎◌, List, [], ◌∷◌, ◌++◌, is_ok, Some, None, Ok, Err, Option, Result, sym, refl, ap, ◌∙◌, subst, inl, inr, ⊎_elim, arith}
 use Rattle.std.proofs.lemmas.List.{append-nil}
 use Rattle.std.proofs.lemmas.Bool.{false≢true}
 use Rattle.fault.specs.Refusals.{bind}
@@ -9,10 +9,10 @@ use Rattle.value.specs.declared.set.KindSet.{KindSet}
 use Rattle.shelf.specs.Slots.{Slot}
 use Rattle.steps.specs.Steps.{takes}
 use Rattle.steps.specs.declared.step.Step.{Step}
-use Rattle.rule.specs.Check.{Env, kinds_at}
-use Rattle.rule.specs.Rules.{Kept, keeping, Sheet, sheet, has_place, adds, added, once_ok, checks, passed}
+use Rattle.rule.specs.Check.{kinds_at}
+use Rattle.rule.specs.Rules.{Kept, keeping, Sheet, sheet, has_place, adds, once_ok, checks}
 use Rattle.desk.specs.Book.{Event, post, tell, count, kind, capacity, mark, clear, add, check, run, Book, limits, feed, fed, book}
-use Rattle.desk.specs.Law.{heeds, Accepted, NoneOf, Settles, LastCheck}
+use Rattle.desk.specs.Law.{heeds, NoneOf, Settles, LastCheck}
 use Rattle.desk.proofs.Postings.{book_more, one_on, none_nil, none_cons, none_head, none_tail}
 
 -- ---- one call on a rule

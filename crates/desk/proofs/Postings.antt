@@ -1,15 +1,15 @@
 -- The values in the book are the last accepted postings.
-use Rattle.std.proofs.Common.{◌≡◌, ℕ, zero, suc, ◌<◌, Bool, true, false, cond, eqb, leb, ◌⊎◌, List, [], ◌∷◌, ◌++◌, set, is_ok, Some, None, Ok, Option, sym, refl, ap, ◌∙◌, subst, inl, inr, ⊎_elim, append_assoc, arith}
+use Rattle.std.proofs.Common.{◌≡◌, ℕ, zero, suc, Bool, true, false, cond, eqb, leb, ◌⊎◌, List, [], ◌∷◌, ◌++◌, set, is_ok, Some, None, Ok, Option, sym, refl, ap, ◌∙◌, subst, inl, inr, ⊎_elim, append_assoc, arith}
 use Rattle.std.specs.Option.{option_map}
 use Rattle.std.specs.List.{slice_get}
 use Rattle.std.proofs.lemmas.List.{append-nil}
-use Rattle.std.proofs.lemmas.Bool.{true≢false, false≢true, both_ways, eqb-true, eqb-false, cases_Bool}
+use Rattle.std.proofs.lemmas.Bool.{both_ways, eqb-true, eqb-false}
 use Rattle.fault.specs.declared.Fault.TheVariants.{Malformed, OverCapacity, Sealed as IsSealed}
 use Rattle.value.specs.Values.{Meaning, well_formed, text_of, size}
 use Rattle.shelf.specs.Slots.{Slot, slot, holding}
 use Rattle.shelf.specs.Calls.{Posted, refused, is_open, post_at, posted}
 use Rattle.desk.specs.Book.{Event, post, tell, count, kind, capacity, mark, clear, add, check, run, Book, made, limits, feed, fed, book}
-use Rattle.desk.specs.Law.{heeds, Accepted, NoneOf, PostTo, Posting, Untouched, LastPosting, InForce}
+use Rattle.desk.specs.Law.{heeds, Accepted, NoneOf, PostTo, InForce}
 
 -- ---- the book after more calls
 

@@ -1,5 +1,5 @@
 -- A run obeys its law.
-use Rattle.std.proofs.Common.{◌≡◌, ℕ, ◌≤◌, Bool, true, false, cond, ◌⊎◌, List, ◌++◌, take, drop, Some, None, Ok, Err, Option, Result, sym, refl, ap, ◌∙◌, subst, inl, inr, ⊎_elim, arith}
+use Rattle.std.proofs.Common.{◌≡◌, ℕ, Bool, true, false, cond, List, ◌++◌, take, drop, Some, None, Ok, Err, Option, Result, sym, refl, ap, ◌∙◌, subst, ⊎_elim, arith}
 use Rattle.fault.specs.Outcomes.{Outcome, beside}
 use Rattle.fault.specs.Refusals.{refusal}
 use Rattle.fault.specs.declared.Fault.TheVariants.{NotPassed, Outdated}
@@ -14,9 +14,9 @@ use Rattle.steps.specs.Walk.{walk}
 use Rattle.steps.specs.declared.step.Step.{Step}
 use Rattle.rule.specs.Check.{Env, checked, kinds_at, fresh}
 use Rattle.rule.specs.Run.{values, with_rest, walked}
-use Rattle.rule.specs.Rules.{Kept, keeping, ran}
+use Rattle.rule.specs.Rules.{Kept, ran}
 use Rattle.desk.specs.Book.{Event, limits, book, Said, value, valued}
-use Rattle.desk.specs.Law.{FromValues, Stale, PassedRun, RunLaw, LastCheck}
+use Rattle.desk.specs.Law.{FromValues, PassedRun, RunLaw, LastCheck}
 use Rattle.desk.proofs.Uniting.{ok_err}
 use Rattle.desk.proofs.Sound.{FineAt, walk_fine, rowed}
 use Rattle.desk.proofs.Staleness.{stale_not, stale_yes}

@@ -1,5 +1,5 @@
 -- One call on a desk that answers as the book does is lawful after every list of calls; and telling a slot gives its value.
-use Rattle.std.proofs.Common.{◌≡◌, ℕ, ◌+◌, ◌≤◌, Bool, true, false, cond, List, [], ◌∷◌, ◌++◌, length, Some, None, Ok, Err, Option, Result, sym, refl, ap, ◌∙◌, subst, arith}
+use Rattle.std.proofs.Common.{◌≡◌, ℕ, ◌+◌, ◌≤◌, Bool, true, false, cond, List, length, Some, None, Ok, Err, Option, Result, sym, refl, ap, ◌∙◌, subst, arith}
 use Rattle.std.specs.Option.{option_map}
 use Rattle.std.specs.List.{slice_get}
 use Rattle.std.proofs.lemmas.Bool.{leb-true}
@@ -16,8 +16,8 @@ use Rattle.value.specs.declared.value.Value.{Value}
 use Rattle.shelf.specs.Slots.{Slot, holding}
 use Rattle.shelf.specs.Calls.{told, tell_at}
 use Rattle.rule.specs.declared.rule.Rule.{Rule}
-use Rattle.desk.specs.Book.{Event, post, tell, count, kind, capacity, mark, clear, add, check, run, Book, feed, book, Said, value, tells, answered}
-use Rattle.desk.specs.Law.{RunOf, Lawful}
+use Rattle.desk.specs.Book.{Event, post, tell, count, kind, capacity, mark, clear, add, check, run, feed, book, Said, value, tells, answered}
+use Rattle.desk.specs.Law.{RunOf}
 use Rattle.desk.specs.Desks.{desk_of, meant_by, Served}
 use Rattle.desk.specs.declared.call.Reply.{Reply}
 use Rattle.desk.proofs.Postings.{book_more}

@@ -1,8 +1,8 @@
 -- What a check assures of a whole run, where every load finds the kind that it found at the check.
-use Rattle.std.proofs.Common.{◌≡◌, ℕ, ◌+◌, Bool, true, false, cond, ◌&&◌, List, [], ◌∷◌, ◌++◌, length, Ok, Err, Result, sym, refl, ap, ◌∙◌, subst, arith}
+use Rattle.std.proofs.Common.{◌≡◌, ℕ, ◌+◌, true, ◌&&◌, List, [], ◌∷◌, ◌++◌, length, Ok, Err, Result, refl, ap, ◌∙◌, subst}
 use Rattle.std.proofs.lemmas.Bool.{and_parts}
 use Rattle.fault.specs.Outcomes.{Outcome, beside, at}
-use Rattle.fault.specs.Refusals.{bind, refusal}
+use Rattle.fault.specs.Refusals.{bind}
 use Rattle.fault.specs.declared.Fault.{Fault}
 use Rattle.fault.specs.declared.Refusal.{Refusal}
 use Rattle.value.specs.Kinds.{has}
@@ -17,11 +17,11 @@ use Rattle.steps.specs.declared.step.Step.{Step}
 use Rattle.steps.specs.declared.step.Step.TheVariants.{Apply, Assign}
 use Rattle.rule.specs.Check.{Env, sets, bare, checked, kind_at, kinds_at, same_kind, fresh}
 use Rattle.rule.specs.Run.{values}
-use Rattle.rule.specs.Sets.{rows_for, rows_over}
+use Rattle.rule.specs.Sets.{rows_over}
 use Rattle.rule.specs.declared.sets.Form.TheVariants.{Binary, Assigning}
 use Rattle.desk.specs.Law.{FromValues, Rowed}
 use Rattle.desk.proofs.Uniting.{ok_err, bind_ok, row_for}
-use Rattle.desk.proofs.Typed.{Fine, Typed, TypedIn, After, beside_ok, typed_pop, local_typed, step_fine}
+use Rattle.desk.proofs.Typed.{Fine, Typed, TypedIn, beside_ok, typed_pop, local_typed, step_fine}
 
 abbrev pub FineAt : {W A : Type 0} → (A → Type 0) → Outcome W A Refusal → Type 0
 FineAt P (Ok r) = P r.0

@@ -1,12 +1,11 @@
 -- The test before a run finds exactly the loads that are missing or of another kind than at the check.
-use Rattle.std.proofs.Common.{◌≡◌, ℕ, ◌+◌, Bool, true, false, ◌&&◌, ◌⊎◌, List, [], ◌∷◌, ◌++◌, Some, None, Ok, Err, Option, Result, sym, refl, ap, ◌∙◌, subst, inl, inr, ⊎_elim, arith}
+use Rattle.std.proofs.Common.{◌≡◌, ℕ, ◌+◌, true, false, List, [], ◌∷◌, ◌++◌, Some, None, Ok, Option, sym, refl, ap, ◌∙◌, subst, inl, inr, ⊎_elim, arith}
 use Rattle.std.specs.Option.{option_map, ok_or}
-use Rattle.std.proofs.lemmas.Bool.{true≢false, false≢true, both_ways, and_parts, and_cases, eq-eqb, ne_eqb}
+use Rattle.std.proofs.lemmas.Bool.{true≢false, false≢true, both_ways, and_parts, and_cases, eq-eqb}
 use Rattle.fault.specs.Outcomes.{beside, at}
 use Rattle.fault.specs.declared.Fault.TheVariants.{Absent}
 use Rattle.value.specs.Kinds.{kind_number, is_kind, single}
 use Rattle.value.specs.Values.{Meaning, kind_in}
-use Rattle.value.specs.declared.kind.Kind.{Kind}
 use Rattle.value.specs.declared.set.KindSet.{KindSet}
 use Rattle.value.proofs.Laws.{is_kind_lem}
 use Rattle.steps.specs.Walk.{Entries, start, step, after}
@@ -14,7 +13,7 @@ use Rattle.steps.specs.declared.step.Step.{Step}
 use Rattle.steps.specs.declared.step.Step.TheVariants.{Put, Slot as Load, Local, Keep, Apply, Assign}
 use Rattle.rule.specs.Check.{Env, kind_now, sets, checked, kind_at, kinds_at, same_kind, fresh}
 use Rattle.desk.specs.Law.{Changed, Stale}
-use Rattle.desk.proofs.Uniting.{ok_err, bind_ok}
+use Rattle.desk.proofs.Uniting.{bind_ok}
 use Rattle.desk.proofs.Typed.{beside_ok, load_was}
 use Rattle.desk.proofs.Sound.{at_ok, checked_as}
 

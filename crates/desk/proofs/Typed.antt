@@ -1,26 +1,25 @@
 -- What a check assures of each step of a run: the entries are of the kinds in the sets, and a step that the check passed is refused,
 -- if at all, for its values alone.
-use Rattle.std.proofs.Common.{◌≡◌, ℕ, zero, suc, Bool, true, false, cond, ltb, List, [], ◌∷◌, length, get_or, set, replicate, Some, None, Ok, Err, Option, Result, sym, refl, ap, ◌∙◌, subst, inl, inr, arith}
+use Rattle.std.proofs.Common.{◌≡◌, ℕ, zero, suc, Bool, true, false, cond, ltb, List, [], ◌∷◌, length, get_or, set, Some, None, Ok, Err, Option, Result, sym, refl, ap, ◌∙◌, subst, inl, inr, arith}
 use Rattle.std.specs.Option.{option_map, ok_or}
 use Rattle.std.proofs.lemmas.Bool.{false≢true}
 use Rattle.fault.specs.Outcomes.{Outcome, beside}
 use Rattle.fault.specs.Refusals.{bind}
 use Rattle.fault.specs.declared.Fault.{Fault}
 use Rattle.fault.specs.declared.Fault.TheVariants.{Absent, Stack, BufferShort}
-use Rattle.value.specs.Kinds.{is_kind, single, has}
+use Rattle.value.specs.Kinds.{single, has}
 use Rattle.value.specs.Values.{Meaning, unit, kind_in, meant, text_of, fits}
 use Rattle.value.specs.declared.kind.Kind.{Kind}
 use Rattle.value.specs.declared.op.Op.{Op}
 use Rattle.value.specs.declared.set.KindSet.{KindSet}
 use Rattle.value.proofs.Laws.{every_kind, is_kind_lem}
-use Rattle.rows.specs.Rows.{selected, assign_selected}
 use Rattle.routines.specs.Calls.{Given, left, right, fresh}
 use Rattle.routines.specs.declared.made.Limits.{Limits}
 use Rattle.operators.specs.Applied.{applied, applied_assign}
-use Rattle.operators.specs.Listed.{value_of, Listed, InRow}
-use Rattle.operators.specs.Rooms.{Room, room, brought, taken}
+use Rattle.operators.specs.Listed.{Listed, InRow}
+use Rattle.operators.specs.Rooms.{Room, brought, taken}
 use Rattle.operators.proofs.Selecting.{apply_as_selected}
-use Rattle.steps.specs.Walk.{Entries, entries, pushed, popped, off_top, kept, local, start, step}
+use Rattle.steps.specs.Walk.{Entries, entries, pushed, popped, off_top, kept, local, step}
 use Rattle.steps.specs.declared.step.Step.{Step}
 use Rattle.steps.specs.declared.step.Step.TheVariants.{Put, Slot, Local, Keep, Apply, Assign}
 use Rattle.rule.specs.Check.{Env, kind_now, sets, kind_at, same_kind}

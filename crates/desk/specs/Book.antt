@@ -1,7 +1,7 @@
 -- The book: a plain machine that starts from a shelf and a rule as made and is fed with the calls' arguments alone. What the book
 -- answers is what every desk answers, over every make of shelf. Assumes nothing.
-use Rattle.std.specs.Prelude.{ℕ, Bool, true, false, cond, List, [], ◌∷◌, length, is_ok, Some, None, Ok, Err, Option, Result}
-use Rattle.fault.specs.Outcomes.{Outcome, beside, at}
+use Rattle.std.specs.Prelude.{ℕ, cond, List, [], ◌∷◌, length, Some, None, Ok, Err, Option, Result}
+use Rattle.fault.specs.Outcomes.{Outcome, beside}
 use Rattle.fault.specs.Refusals.{refusal, placed_at, bind}
 use Rattle.fault.specs.declared.Fault.{Fault}
 use Rattle.fault.specs.declared.Fault.TheVariants.{Absent, BufferShort}

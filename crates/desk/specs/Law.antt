@@ -2,7 +2,7 @@
 -- a passed rule is bound to. It holds after every list of calls, refused ones among them, over every make of shelf.
 -- Assumes nothing.
 use Rattle.std.specs.Prelude.{◌≡◌, ℕ, ◌≤◌, Bool, true, false, ◌⊎◌, List, [], ◌∷◌, ◌++◌, take, is_ok, Some, None, Ok, Err, Option, Result, ◌≢◌}
-use Rattle.fault.specs.Outcomes.{Outcome, beside}
+use Rattle.fault.specs.Outcomes.{beside}
 use Rattle.fault.specs.Refusals.{number, refusal}
 use Rattle.fault.specs.declared.Fault.{Fault}
 use Rattle.fault.specs.declared.Fault.TheVariants.{NotPassed, Outdated}
@@ -16,9 +16,9 @@ use Rattle.routines.specs.declared.made.Limits.{Limits}
 use Rattle.operators.specs.Rooms.{Room, room}
 use Rattle.shelf.specs.Slots.{Slot, holding}
 use Rattle.shelf.specs.Calls.{posted}
-use Rattle.steps.specs.Walk.{Entries, entries, start, after, local}
+use Rattle.steps.specs.Walk.{entries, start, after, local}
 use Rattle.steps.specs.declared.step.Step.{Step}
-use Rattle.steps.specs.declared.step.Step.TheVariants.{Put, Slot as Load, Local, Keep, Apply, Assign}
+use Rattle.steps.specs.declared.step.Step.TheVariants.{Slot as Load, Apply, Assign}
 use Rattle.rule.specs.Check.{Env}
 use Rattle.rule.specs.Run.{values, walked}
 use Rattle.rule.specs.Rules.{adds, checks}

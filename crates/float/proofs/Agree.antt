@@ -1,5 +1,5 @@
 -- What the six comparisons of two floats are to each other.
-use Rattle.std.proofs.Common.{◌≡◌, ℕ, Bool, true, false, cond, ◌||◌, sym, refl, ap, ◌∙◌, inl, inr, arith}
+use Rattle.std.proofs.Common.{◌≡◌, Bool, true, false, cond, ◌||◌, sym, refl, ap, ◌∙◌, inl, inr, arith}
 use lib.Ieee.{Float, is_nan, lt}
 use Rattle.std.specs.Float.{float_is_infinite}
 use Rattle.std.proofs.lemmas.Bool.{false≢true}

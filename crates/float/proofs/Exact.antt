@@ -1,22 +1,18 @@
 -- The tolerance over counts: the rounded quotient of two floats is at most 2 ^ -52 exactly where 2 ^ 52 of the first are at
 -- most the second. Two floats have at most 53 digits, so a quotient above 2 ^ -52 is above the middle to the next float.
 use Rattle.std.proofs.Common.{◌≡◌, ℕ, zero, suc, ◌+◌, ◌-◌, ◌*◌, ◌%◌, ◌^◌, ◌<◌, ◌≤◌, Bool, true, false, cond, ◌&&◌, ◌||◌, T, eqb, ltb, leb, ◌⊎◌, ℤ, pos, negsuc, sym, refl, ap, ◌∙◌, subst, inl, inr, le_trans, le_of_eq, lt_of_le_of_lt, lt_irrefl, mul-le-mul_right, mul_assoc, mul_comm, lt_of_mul-lt-mul_right, mul-pos, one-mul, zero-mul, mul-one, mul_right_comm, arith, lit<, lit≤, eqb→eq, ltb→lt, leb→le, pow_pos, pow-add}
-use mathlib.Core.Bool.{beq}
 use lib.Dec.{eqb-suc-zero}
 use lib.Pow.{pow-lt}
-use lib.Ieee.{Float, nan, inf, fin, binary64, sub, mul, div, lt, le, eq, fits, round, up, down, low, prec, emax, is_nan, unlike, level}
-use lib.Ieee.Exact.{HasValue}
+use lib.Ieee.{Float, nan, inf, fin, binary64, sub, mul, div, le, eq, fits, round, up, down, is_nan, unlike, level}
 use lib.Ieee.Fits.{up_pos, down_pos, and_l, and_r, sub-fits}
 use lib.Ieee.Order.{round_mono}
 use lib.Ieee.Positive.{first_pos, positive, between, le_trans_positive}
 use lib.Ieee.Scale.{round_same}
-use Rattle.std.specs.Float.{float_is_finite, float_is_infinite, float_with_sign, float_max, float_one, float_zero as zero-float}
-use Rattle.std.proofs.lemmas.Bool.{true≢false, false≢true, cases_lt, cases_Bool}
-use Rattle.std.proofs.lemmas.Bool.Decides.{nat_tests}
-use Rattle.order.specs.declared.traits.Order.{Order}
+use Rattle.std.specs.Float.{float_is_finite, float_is_infinite, float_with_sign, float_max, float_zero as zero-float}
+use Rattle.std.proofs.lemmas.Bool.{true≢false, false≢true, cases_lt}
 use Rattle.order.specs.declared.traits.Order.TheVariants.{Equal}
-use Rattle.float.specs.Tolerance.{by_float, by_ieee, unscaled, divisor, difference, close, size, epsilon}
-use Rattle.float.specs.Exactly.{count, Within, Exact}
+use Rattle.float.specs.Tolerance.{by_float, by_ieee, unscaled, divisor, close, size, epsilon}
+use Rattle.float.specs.Exactly.{count, Exact}
 use Rattle.float.specs.Exchange.{unscaled_exchange}
 
 -- ---- what a float that fits has: few digits, and no exponent below the lowest

@@ -1,6 +1,6 @@
 -- What the six comparisons of two floats are to each other: wherever == says yes, so do >= and <=; of two that are no NaN
 -- exactly one of <, == and > holds; and beside a NaN only != does. Assumes nothing.
-use Rattle.std.specs.Prelude.{◌≡◌, Bool, true, false, ◌||◌, ◌⊎◌, is_nan, Float}
+use Rattle.std.specs.Prelude.{◌≡◌, true, false, ◌||◌, ◌⊎◌, is_nan, Float}
 use Rattle.order.specs.Orders.{satisfies}
 use Rattle.order.specs.declared.traits.Order.{Order}
 use Rattle.order.specs.declared.comparison.Comparison.{Comparison}

@@ -1,17 +1,16 @@
 -- Comparing floats keeps the law of exchange: each part of the definition does, the product, the difference, the larger.
-use Rattle.std.specs.Prelude.{◌≡◌, ℕ, zero, suc, ◌+◌, ◌-◌, ◌*◌, ◌^◌, ◌<◌, ◌≤◌, Bool, true, false, cond, not, ◌&&◌, ◌||◌, T, ℤ, pos, negsuc, ◌==◌, ◌≢◌, nat_lt, refl, Float}
-use Rattle.std.proofs.Common.{arith, mul_comm, add_comm, mul-pos, zero-mul, ltb-true, ltb-false, sym, ap, ◌∙◌, subst}
+use Rattle.std.specs.Prelude.{◌≡◌, ℕ, zero, suc, ◌+◌, ◌-◌, ◌*◌, ◌^◌, ◌<◌, Bool, true, false, cond, not, ◌&&◌, ◌||◌, ℤ, ◌==◌, ◌≢◌, nat_lt, refl, Float}
+use Rattle.std.proofs.Common.{arith, mul_comm, add_comm, mul-pos, zero-mul, ltb-true, ltb-false, sym, ap, ◌∙◌}
 use Rattle.std.proofs.Math.Nat.{mul-mul-mul_comm}
 use Rattle.std.specs.Float.Ieee.Fits.{up_pos, down_pos}
 use Rattle.std.specs.Float.Ieee.Scale.{round_same}
-use Rattle.std.specs.Bool.{beq}
 use Rattle.std.proofs.Math.Dec.{eqb-suc-zero}
 use Rattle.std.proofs.lemmas.Bool.{true≢false, false≢true}
 use Rattle.std.specs.Float.Ieee.{sub, add, neg, sum, mul, div, lt, le, eq, is_nan, round, units, odd, up, down, below, unlike, low, emax, prec}
 use Rattle.std.specs.Float.{float_is_infinite, float_with_sign, float_one, float_max, float_zero as zero-float, nan, inf, fin, Format, binary64}
 use Rattle.std.proofs.lemmas.Bool.Decides.{nat_tests}
 use Rattle.order.specs.declared.traits.Order.{Order}
-use Rattle.order.specs.declared.traits.Order.TheVariants.{Less, Equal, Greater, Unordered}
+use Rattle.order.specs.declared.traits.Order.TheVariants.{Equal}
 use Rattle.order.specs.Orders.{ranked, exchanged}
 use Rattle.float.specs.Tolerance.{by_float, by_ieee, divisor, close, unscaled, size, epsilon}
 

@@ -1,9 +1,9 @@
 -- The fields of a line, by its first separator.
-use Rattle.std.proofs.Common.{◌≡◌, ℕ, zero, suc, ◌+◌, ◌-◌, ◌<◌, ◌≤◌, true, false, eqb, List, [], ◌∷◌, length, get_or, take, drop, refl, le_of_suc-le-suc, add-one, arith}
+use Rattle.std.proofs.Common.{◌≡◌, ℕ, zero, suc, ◌+◌, ◌-◌, ◌<◌, true, false, eqb, List, [], ◌∷◌, length, get_or, take, drop, refl, add-one, arith}
 use Rattle.std.proofs.lemmas.Bool.{ne_eqb, eq-eqb}
 use Rattle.std.proofs.lemmas.Slice.{between_to_end}
 use native.Mathlib.Nat.{sub-zero}
-use Rattle.format.specs.Fields.{fields, onto}
+use Rattle.format.specs.Fields.{fields}
 
 pub fields_none : (sep : ℕ) (bs : List ℕ) → ((k : ℕ) → k < length bs → get_or bs k 0 ≡ sep → ⊥) → fields sep bs ≡ bs ∷ []
 fields_none sep [] h = refl

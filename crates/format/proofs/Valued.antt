@@ -1,8 +1,7 @@
 -- Values of one kind: that none is written so, from what each kind's own reading says.
-use Rattle.std.proofs.Common.{◌≡◌, ℕ, ◌+◌, ◌*◌, ◌/◌, ◌%◌, ◌<◌, ◌≤◌, Bool, true, false, cond, ltb, List, [], ◌∷◌, ◌++◌, length, get_or, take, drop, ℤ, codes, sym, refl, ap, ◌∙◌, subst, ⊎_elim, arith, length-drop, length-take, w64, SFits}
+use Rattle.std.proofs.Common.{◌≡◌, ℕ, ◌+◌, ◌*◌, ◌/◌, ◌%◌, ◌<◌, ◌≤◌, Bool, true, false, cond, ltb, List, [], ◌∷◌, length, get_or, drop, ℤ, codes, sym, refl, ap, ◌∙◌, subst, ⊎_elim, arith, length-drop, length-take}
 use lib.Ieee.{Float}
 use lib.Utf8.{encode, scalar, scalar_cases}
-use Rattle.std.specs.Fmt.{signed_decimal}
 use Rattle.std.specs.Str.{bytes_eq}
 use Rattle.std.proofs.lemmas.Slice.Eq.{bytes_eq-Decides}
 use Rattle.std.proofs.lemmas.Bool.{both_ways, cond_both, ltb-true}
@@ -12,8 +11,6 @@ use Rattle.std.proofs.lemmas.Str.{length-encode}
 use Rattle.std.proofs.lemmas.Bool.Decides.{nat_tests}
 use Rattle.text.specs.Buffers.{span_text}
 use Rattle.text.specs.declared.span.Span.{Span}
-use Rattle.text.specs.Scalars.{utf8}
-use Rattle.value.specs.Kinds.{kind_number}
 use Rattle.value.specs.Values.{Meaning, unit, bool, int, float, char, str, blob, excl, incl, kind_in}
 use Rattle.value.specs.declared.kind.Kind.{Kind}
 use Rattle.value.specs.declared.kind.Kind.TheVariants as kind

@@ -1,10 +1,9 @@
 -- What a line asks for, from what each of its fields is read as.
-use Rattle.std.proofs.Common.{◌≡◌, ℕ, ◌+◌, ◌*◌, ◌^◌, ◌<◌, ◌≤◌, true, false, List, [], ◌∷◌, length, is_ok, Some, None, Ok, Err, decimal, Option, Result, sym, refl, ap, ◌∙◌, subst, arith}
-use Rattle.fault.specs.declared.Fault.{Fault}
+use Rattle.std.proofs.Common.{◌≡◌, ℕ, ◌≤◌, true, false, List, [], ◌∷◌, length, is_ok, Some, None, Ok, Err, Option, Result, sym, refl, ap, ◌∙◌, subst, arith}
 use Rattle.fault.specs.declared.Fault.TheVariants.{Malformed}
 use Rattle.text.specs.Buffers.{span_text}
 use Rattle.text.specs.declared.span.Span.{Span}
-use Rattle.value.specs.Values.{Meaning, kind_in, kind_of, meant}
+use Rattle.value.specs.Values.{Meaning, kind_of, meant}
 use Rattle.value.specs.declared.kind.Kind.{Kind}
 use Rattle.value.specs.declared.value.Value.{Value}
 use Rattle.value.specs.declared.value.Value.TheVariants as value
@@ -15,7 +14,7 @@ use Rattle.desk.specs.Book as book
 use Rattle.format.specs.Written.{written}
 use Rattle.format.specs.Reading.{ReadableIn, ReadsKind}
 use Rattle.format.proofs.Laws.{readable_in}
-use Rattle.line.specs.Asked.{ReadsSlot, ReadsPosting, ReadsLiteral, AsksPost, AsksPut}
+use Rattle.line.specs.Asked.{ReadsSlot, AsksPost, AsksPut}
 
 module _ (k : Kind) (o : Option Kind) (named : Some k ≡ o) (v buffer : List ℕ) (short : length v ≤ 4096) where
   -- what is read in a buffer is readable at all

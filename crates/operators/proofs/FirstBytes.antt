@@ -1,5 +1,5 @@
 -- An operator alone, in the first 65,536 bytes of a buffer.
-use Rattle.std.proofs.Common.{◌≡◌, ℕ, min, Bool, true, false, cond, ◌&&◌, List, ◌++◌, length, take, drop, Ok, Err, Result, sym, refl, ap, ◌∙◌, subst, arith, length-append}
+use Rattle.std.proofs.Common.{◌≡◌, ℕ, min, true, false, cond, ◌&&◌, List, ◌++◌, length, take, drop, Ok, Err, Result, sym, ap, ◌∙◌, subst, arith, length-append}
 use Rattle.std.proofs.lemmas.List.{take-append-drop}
 use Rattle.fault.specs.Refusals.{bind}
 use Rattle.fault.specs.declared.Fault.{Fault}

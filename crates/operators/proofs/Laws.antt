@@ -1,5 +1,5 @@
 -- The laws of operators in a run, for this crate and those above: the work buffer is never filled past its end.
-use Rattle.std.proofs.Common.{◌≡◌, ℕ, ◌+◌, ◌≤◌, Bool, true, false, cond, List, length, Ok, Err, Result, sym, refl, ap, ◌∙◌, subst}
+use Rattle.std.proofs.Common.{◌≡◌, ℕ, ◌+◌, ◌≤◌, Bool, true, false, List, length, Ok, Err, Result, refl}
 use Rattle.std.proofs.lemmas.Bool.{leb-true}
 use Rattle.fault.specs.declared.Fault.{Fault}
 use Rattle.text.specs.Buffers.{has_room}

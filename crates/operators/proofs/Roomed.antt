@@ -1,8 +1,8 @@
 -- What a call in a run leaves: values that were held stay so, with their meaning, and a new one is held.
-use Rattle.std.proofs.Common.{◌≡◌, ℕ, ◌+◌, ◌≤◌, Bool, true, false, cond, ◌&&◌, leb, List, length, take, drop, Some, None, Ok, Err, Option, Result, sym, refl, ap, ◌∙◌, subst, arith}
+use Rattle.std.proofs.Common.{◌≡◌, ℕ, ◌+◌, ◌≤◌, Bool, true, false, List, length, take, drop, Some, None, Ok, Err, Option, Result, sym, refl, ap, ◌∙◌, subst, arith}
 use Rattle.std.proofs.lemmas.List.{drop-take, take-take}
 use Rattle.std.proofs.lemmas.Bool.{leb-true, le-leb, and_from}
-use Rattle.fault.specs.Outcomes.{Outcome, beside}
+use Rattle.fault.specs.Outcomes.{Outcome}
 use Rattle.fault.specs.Refusals.{bind}
 use Rattle.fault.specs.declared.Fault.{Fault}
 use Rattle.fault.specs.declared.Fault.TheVariants.{BufferShort}
@@ -10,7 +10,7 @@ use Rattle.text.specs.Buffers.{span, span_text, within, laid, has_room}
 use Rattle.text.specs.Scalars.{utf8}
 use Rattle.text.specs.declared.span.Span.{Span}
 use Rattle.text.proofs.Laws.{length_laid, take_laid, span_new}
-use Rattle.value.specs.Values.{Meaning, unit, bool, int, float, char, str, blob, excl, incl, meaning, meant, well_formed, text_of, text_in, held_at, fits, written, size, told_at, range, Inside}
+use Rattle.value.specs.Values.{Meaning, unit, bool, int, float, char, str, blob, excl, incl, meant, well_formed, text_in, told_at, range, Inside}
 use Rattle.value.specs.declared.set.KindSet.{KindSet}
 use Rattle.value.specs.declared.value.Value.{Value}
 use Rattle.value.specs.declared.value.Value.TheVariants as value

@@ -1,5 +1,5 @@
 -- SELECT speaks for APPLY.
-use Rattle.std.proofs.Common.{◌≡◌, ℕ, ◌≤◌, Bool, true, false, cond, ◌&&◌, ◌||◌, eqb, ltb, List, ◌++◌, length, ℤ, pos, negsuc, is_ok, Some, None, Ok, Err, IsUtf8, Option, Result, sym, refl, ap, ◌∙◌, subst, ⊎_elim, arith}
+use Rattle.std.proofs.Common.{◌≡◌, ℕ, ◌≤◌, Bool, true, cond, ◌||◌, eqb, ltb, List, ◌++◌, length, ℤ, pos, negsuc, is_ok, Some, None, Ok, Err, IsUtf8, Option, Result, sym, refl, ap, ◌∙◌, subst, ⊎_elim, arith}
 use lib.Utf8.{encode}
 use Rattle.std.specs.Option.{option_map, ok_or}
 use Rattle.std.proofs.lemmas.Str.{IsUtf8-append, IsUtf8-encode}
@@ -15,7 +15,7 @@ use Rattle.value.specs.declared.kind.Kind.{Kind}
 use Rattle.value.specs.declared.kind.Kind.TheVariants as kind
 use Rattle.value.proofs.Laws.{every_kind, is_kind_lem}
 use Rattle.value.specs.declared.set.KindSet.{KindSet}
-use Rattle.whole.specs.Whole.{computed, is_int, is_zero, power_of}
+use Rattle.whole.specs.Whole.{computed, is_zero, power_of}
 use Rattle.whole.specs.declared.operation.Arithmetic.{Arithmetic}
 use Rattle.whole.specs.declared.operation.Arithmetic.TheVariants as whole
 use Rattle.rows.specs.Rows.{is_letters, is_number, row_of, assign_row_of}
@@ -26,7 +26,7 @@ use Rattle.rows.specs.declared.routine.FnBuiltin.{FnBuiltin}
 use Rattle.rows.specs.declared.routine.FnBuiltin.TheVariants as builtin
 use Rattle.rows.specs.declared.routine.FnAssign.{FnAssign}
 use Rattle.rows.specs.declared.routine.FnAssign.TheVariants as assign
-use Rattle.routines.specs.Calls.{Given, left, right, fresh, of, truth, chosen, grown, typed, allowed, ranged, greatest, called, assigned, as_int, as_float, as_bool, as_blob, as_range, as_end, as_scalars, as_bytes}
+use Rattle.routines.specs.Calls.{Given, left, right, fresh, of, chosen, grown, typed, allowed, ranged, greatest, called, assigned, as_int, as_float, as_bool, as_blob, as_range, as_end, as_scalars, as_bytes}
 use Rattle.routines.specs.declared.made.Limits.{Limits}
 use Rattle.routines.specs.declared.made.TextKind.TheVariants.{Str as StrText, Blob as BlobText}
 use Rattle.routines.specs.declared.made.Choice.{Choice}

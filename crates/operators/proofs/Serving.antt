@@ -1,5 +1,5 @@
 -- Which kinds each routine is for, and that it reads operands of these kinds.
-use Rattle.std.proofs.Common.{◌≡◌, Bool, true, false, ◌&&◌, ◌||◌, ℤ, is_ok, Some, None, Option, refl}
+use Rattle.std.proofs.Common.{◌≡◌, Bool, true, ◌&&◌, ◌||◌, ℤ, is_ok, Some, None, Option, refl}
 use Rattle.value.specs.Kinds.{is_kind}
 use Rattle.value.specs.Values.{Meaning, unit, bool, int, float, char, str, blob, excl, incl, kind_in}
 use Rattle.value.specs.declared.kind.Kind.{Kind}

@@ -1,5 +1,5 @@
 -- What the order of two sequences is once one of them has run out.
-use Rattle.std.proofs.Common.{◌≡◌, ℕ, ◌+◌, ◌<◌, ◌⊎◌, List, [], ◌∷◌, length, sym, refl, ap, ◌∙◌, inl, inr, arith}
+use Rattle.std.proofs.Common.{◌≡◌, ◌+◌, ◌<◌, ◌⊎◌, List, [], ◌∷◌, length, sym, refl, ap, ◌∙◌, inl, inr, arith}
 use Rattle.order.specs.declared.traits.Order.{Order}
 use Rattle.order.specs.declared.traits.Order.TheVariants.{Less, Equal, Greater}
 use Rattle.order.specs.Orders.{by_sequence}

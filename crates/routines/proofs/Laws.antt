@@ -1,5 +1,5 @@
 -- A call that comes to the same as another settles alike.
-use Rattle.std.proofs.Common.{◌≡◌, ℕ, List, Err, Result, sym, ap, ◌∙◌, subst}
+use Rattle.std.proofs.Common.{◌≡◌, ℕ, List, Err, Result, sym, ap, subst}
 use Rattle.fault.specs.declared.Fault.{Fault}
 use Rattle.text.specs.declared.piece.Text.{Text}
 use Rattle.value.specs.declared.value.Value.{Value}
@@ -7,7 +7,7 @@ use Rattle.rows.specs.declared.routine.FnBuiltin.{FnBuiltin}
 use Rattle.routines.specs.declared.made.Made.{Made}
 use Rattle.routines.specs.declared.made.Limits.{Limits}
 use Rattle.routines.specs.Calls.{Given, called}
-use Rattle.routines.specs.Outcomes.{operand, Outcome, settled, Settles, Reads}
+use Rattle.routines.specs.Outcomes.{operand, Settles, Reads}
 
 pub settles_as : {work : List ℕ} {fill : ℕ} {o p : Result Given Fault} {r : Result Made Fault} {after : List ℕ} → o ≡ p → Settles work fill p r after → Settles work fill o r after
 settles_as {work} {fill} {o} {p} {r} {after} e s = subst (λ q. Settles work fill q r after) (sym e) s

@@ -1,13 +1,12 @@
 -- New texts: the two ways beside a limit, and what writing one comes to.
 use Rattle.std.proofs.Common.{◌≡◌, ℕ, ◌+◌, Bool, true, false, cond, List, ◌++◌, length, Ok, Err, Result, sym, refl, ap, ◌∙◌, length-append}
-use Rattle.fault.specs.Refusals.{bind, unless}
+use Rattle.fault.specs.Refusals.{bind}
 use Rattle.fault.specs.declared.Fault.{Fault}
-use Rattle.fault.specs.declared.Fault.TheVariants.{BufferShort, OverLimit}
-use Rattle.text.specs.Buffers.{Stored, stored, span, laid, has_room}
+use Rattle.fault.specs.declared.Fault.TheVariants.{OverLimit}
+use Rattle.text.specs.Buffers.{Stored, stored, has_room}
 use Rattle.text.specs.declared.span.Span.{Span}
 use Rattle.routines.specs.declared.made.TextKind.{TextKind}
 use Rattle.routines.specs.declared.made.TextKind.TheVariants as text
-use Rattle.routines.specs.declared.made.Made.{Made}
 use Rattle.routines.specs.declared.made.Made.TheVariants.{New}
 use Rattle.routines.specs.Calls.{allowed, grown, fresh, typed}
 use Rattle.routines.specs.Outcomes.{limited, Outcome, settled, valued}

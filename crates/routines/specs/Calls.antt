@@ -1,6 +1,6 @@
 -- What each routine does, on values by their meaning: the operators of rhai, in its order. A routine that meets a kind it is
 -- not for refuses as one without a row does; the rows never lead there. Assumes nothing.
-use Rattle.std.specs.Prelude.{ℕ, ◌-◌, ◌%◌, ◌^◌, Bool, true, false, cond, not, ◌&&◌, ◌||◌, List, [], ◌∷◌, ◌++◌, length, ℤ, pos, Ok, Err, Result, ◌==◌, nat_le, Float}
+use Rattle.std.specs.Prelude.{ℕ, ◌-◌, ◌%◌, ◌^◌, Bool, cond, not, ◌&&◌, ◌||◌, List, [], ◌∷◌, ◌++◌, length, ℤ, pos, Ok, Err, Result, ◌==◌, nat_le, Float}
 use Rattle.std.specs.Bool.{beq}
 use Rattle.std.specs.Float.{binary64}
 use Rattle.std.specs.Float.Ieee.{of_int}

@@ -1,5 +1,5 @@
 -- The rows: which routine an operator has for two kinds, and so which kinds it can give. Assumes nothing.
-use Rattle.std.specs.Prelude.{ℕ, ◌-◌, Bool, true, false, cond, not, ◌&&◌, ◌||◌, List, [], ◌∷◌, Some, None, Option, Result, nat_lt}
+use Rattle.std.specs.Prelude.{ℕ, ◌-◌, Bool, true, false, cond, not, ◌&&◌, ◌||◌, List, [], ◌∷◌, None, Option, Result, nat_lt}
 use Rattle.std.specs.Option.{option_map, option_or, ok_or}
 use Rattle.std.specs.List.{slice_get}
 use Rattle.fault.specs.declared.Fault.{Fault}
@@ -16,7 +16,6 @@ use Rattle.value.specs.declared.kind.Kind.{Kind}
 use Rattle.value.specs.declared.kind.Kind.TheVariants as kind
 use Rattle.value.specs.declared.set.KindSet.{KindSet}
 use Rattle.value.specs.declared.op.Op.{Op}
-use Rattle.value.specs.declared.op.Op.TheVariants.{Plus}
 use Rattle.rows.specs.declared.routine.Logic.{Logic}
 use Rattle.rows.specs.declared.routine.Logic.TheVariants as logic
 use Rattle.rows.specs.declared.routine.RangeKind.{RangeKind}

@@ -1,11 +1,11 @@
 -- The rows a second time, as a user lists them: groups of operators and kinds with what they give. The first group that an
 -- operator and two kinds belong to decides, and what belongs to none has no row. `RowsAsListed` says that these are the
 -- rows of `specs/Rows.antt`. Assumes nothing.
-use Rattle.std.specs.Prelude.{◌≡◌, Bool, true, false, cond, not, ◌&&◌, ◌||◌, List, [], ◌∷◌, Some, None, Option, ◌==◌}
+use Rattle.std.specs.Prelude.{◌≡◌, Bool, false, cond, not, ◌&&◌, ◌||◌, List, [], ◌∷◌, Some, None, Option, ◌==◌}
 use Rattle.std.specs.Option.{ok_or}
 use Rattle.fault.specs.declared.Fault.TheVariants.{NoRow}
-use Rattle.value.specs.Kinds.{is_kind, kinds, single, united}
-use Rattle.value.specs.Ops.{ops, op_number}
+use Rattle.value.specs.Kinds.{is_kind, single, united}
+use Rattle.value.specs.Ops.{op_number}
 use Rattle.value.specs.declared.kind.Kind.{Kind}
 use Rattle.value.specs.declared.kind.Kind.TheVariants as kind
 use Rattle.value.specs.declared.set.KindSet.{KindSet}

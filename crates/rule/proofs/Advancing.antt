@@ -1,23 +1,22 @@
 -- Each step of a run, once the calls that it makes are known.
-use Rattle.std.proofs.Common.{◌≡◌, ℕ, ◌<◌, ◌≤◌, List, [], length, get_or, set, Ok, Err, Result, sym, refl, ap, ◌∙◌, subst, arith}
+use Rattle.std.proofs.Common.{◌≡◌, ℕ, ◌<◌, ◌≤◌, List, [], length, get_or, Ok, Err, Result, sym, refl, ap, ◌∙◌, arith}
 use Rattle.fault.specs.Outcomes.{Outcome, beside}
 use Rattle.fault.specs.Refusals.{bind}
 use Rattle.fault.specs.declared.Fault.{Fault}
 use Rattle.text.specs.declared.span.Span.{Span}
 use Rattle.value.specs.Values.{Meaning, meant}
-use Rattle.value.specs.declared.op.Op.{Op}
 use Rattle.value.specs.declared.value.Value.{Value}
 use Rattle.routines.specs.declared.made.Limits.{Limits}
 use Rattle.operators.specs.Applied.{Held}
-use Rattle.operators.specs.Rooms.{Room, room, applied_in, assigned_in, Gives}
+use Rattle.operators.specs.Rooms.{Room, room, Gives}
 use Rattle.operators.proofs.Roomed.{grown_none}
 use Rattle.steps.specs.Frames.{done}
-use Rattle.steps.specs.Walk.{Entries, pushed, popped, kept, step, local}
-use Rattle.steps.proofs.Laws.{load_step, keep_step, apply_step, assign_step}
+use Rattle.steps.specs.Walk.{Entries, pushed, popped, kept, step}
+use Rattle.steps.proofs.Laws.{load_step, keep_step}
 use Rattle.steps.specs.declared.step.Step.{Step}
-use Rattle.steps.specs.declared.step.Step.TheVariants.{Put, Slot, Local, Keep, Apply, Assign}
+use Rattle.steps.specs.declared.step.Step.TheVariants.{Put, Local, Keep}
 use Rattle.rule.specs.Check.{Env}
-use Rattle.rule.specs.Run.{loaded, values, meanings, AllHeld, Advances}
+use Rattle.rule.specs.Run.{values, meanings, AllHeld, Advances}
 use Rattle.rule.proofs.Framed.{meanings_still, frame_still, push_means, push_held, pop_means, pop_held, keep_means, keep_held, local_means, local_held}
 
 module _ (l : Limits) (env : Env) (work : List ℕ) (fill : ℕ) (inside : fill ≤ length work) (e : Entries (Value Span)) (a : AllHeld work fill e) where

@@ -6,7 +6,7 @@ use Rattle.fault.specs.Refusals.{bind}
 use Rattle.fault.specs.declared.Fault.{Fault}
 use Rattle.fault.specs.declared.Fault.TheVariants.{Stack}
 use Rattle.text.specs.declared.span.Span.{Span}
-use Rattle.value.specs.Values.{Meaning, unit, meant}
+use Rattle.value.specs.Values.{unit, meant}
 use Rattle.value.specs.declared.value.Value.{Value}
 use Rattle.operators.specs.Applied.{Held}
 use Rattle.operators.specs.Rooms.{Grown}

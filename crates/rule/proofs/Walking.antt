@@ -2,13 +2,12 @@
 use Rattle.std.proofs.Common.{◌≡◌, ℕ, ◌+◌, ◌<◌, ◌≤◌, min, List, [], ◌∷◌, ◌++◌, map, length, get_or, take, drop, replicate, Ok, Err, Result, sym, refl, ap, ◌∙◌, subst, zero-le, arith, length-append, take_at}
 use Rattle.std.proofs.lemmas.List.{take_all}
 use Rattle.fault.specs.Outcomes.{beside}
-use Rattle.fault.specs.Refusals.{bind, placed_at, refusal}
+use Rattle.fault.specs.Refusals.{bind, placed_at}
 use Rattle.fault.specs.declared.Fault.{Fault}
-use Rattle.fault.specs.declared.Fault.TheVariants.{Stack}
 use Rattle.fault.specs.declared.Refusal.{Refusal}
 use Rattle.text.proofs.Laws.{take_first, drop_first}
 use Rattle.text.specs.declared.span.Span.{Span}
-use Rattle.value.specs.Values.{Meaning, meant, text_in, Inside}
+use Rattle.value.specs.Values.{meant, text_in, Inside}
 use Rattle.value.specs.declared.value.Value.{Value}
 use Rattle.value.specs.declared.value.Value.TheVariants as value
 use Rattle.routines.specs.declared.made.Limits.{Limits}

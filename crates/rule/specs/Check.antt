@@ -1,6 +1,6 @@
 -- CHECK: the walk over a rule's steps with sets of kinds. A slot has the kind of its value now, and an operator needs a row for
 -- every pair of kinds. Beside it, the kinds that a passed rule keeps, of the slots that it loads. Assumes nothing.
-use Rattle.std.specs.Prelude.{ℕ, Bool, true, false, cond, ◌&&◌, List, [], ◌∷◌, map, Some, None, Ok, Err, Option, Result}
+use Rattle.std.specs.Prelude.{ℕ, Bool, true, false, ◌&&◌, List, [], ◌∷◌, map, Some, None, Ok, Err, Option, Result}
 use Rattle.std.specs.Option.{option_map, ok_or}
 use Rattle.fault.specs.declared.Fault.TheVariants.{Absent}
 use Rattle.fault.specs.declared.Refusal.{Refusal}

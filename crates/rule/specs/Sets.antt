@@ -1,5 +1,5 @@
 -- The operators on sets of kinds: a row for every pair, and the results unite. Assumes nothing.
-use Rattle.std.specs.Prelude.{cond, List, [], ◌∷◌, Ok, Err, Result}
+use Rattle.std.specs.Prelude.{cond, List, [], ◌∷◌, Ok, Result}
 use Rattle.fault.specs.Refusals.{bind}
 use Rattle.fault.specs.declared.Fault.{Fault}
 use Rattle.value.specs.Kinds.{kinds, set, has, united}

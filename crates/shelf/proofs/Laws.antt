@@ -1,13 +1,13 @@
 -- The laws of a shelf's calls, for its makes and what runs over it: what each gives once the slot is known, a posting seen
 -- through a view of the slots, and that postings keep every value well formed.
-use Rattle.std.proofs.Common.{◌≡◌, ℕ, zero, suc, ◌+◌, ◌<◌, ◌≤◌, Bool, true, false, cond, ◌&&◌, leb, List, [], ◌∷◌, ◌++◌, length, take, set, Some, None, Ok, Err, Option, sym, refl, ap, ◌∙◌, suc-add, zero-add, arith}
+use Rattle.std.proofs.Common.{◌≡◌, ℕ, ◌<◌, ◌≤◌, Bool, true, false, cond, leb, List, set, Some, None, Ok, Err, Option, refl, ap, ◌∙◌}
 use Rattle.std.specs.Option.{option_map, ok_or}
 use Rattle.std.specs.List.{slice_get}
-use Rattle.std.proofs.lemmas.Bool.{le-leb, lt-leb, and_parts, and_from}
+use Rattle.std.proofs.lemmas.Bool.{le-leb, lt-leb}
 use Rattle.fault.specs.declared.Fault.{Fault}
 use Rattle.fault.specs.declared.Fault.TheVariants.{Malformed, Absent, OverCapacity}
-use Rattle.value.specs.Values.{Meaning, text_of, well_formed, size, Told, told_at}
-use Rattle.shelf.specs.Slots.{Slot, slot, all_formed}
+use Rattle.value.specs.Values.{Meaning, text_of, well_formed, size, told_at}
+use Rattle.shelf.specs.Slots.{Slot, slot}
 use Rattle.shelf.specs.Calls.{asked, tell_at, told, Posted, refused, is_open, post_at, posted}
 use Rattle.shelf.specs.declared.mark.Mark.TheVariants.{Open}
 

@@ -1,6 +1,6 @@
 -- How a value and an answer are printed: a value as its kind's name, a tab, and the value as it is written; a refusal as `no`, its
 -- number and its place; any other answer as `ok`. Assumes nothing.
-use Rattle.std.specs.Prelude.{ℕ, List, [], ◌∷◌, ◌++◌, codes, decimal}
+use Rattle.std.specs.Prelude.{ℕ, List, ◌∷◌, ◌++◌, codes, decimal}
 use Rattle.fault.specs.Refusals.{number}
 use Rattle.fault.specs.declared.Refusal.{Refusal}
 use Rattle.value.specs.Values.{Meaning, kind_in, meaning}

@@ -14,7 +14,7 @@ use Rattle.steps.specs.Frames.{done}
 use Rattle.fault.specs.Outcomes.{Outcome, beside, at}
 use Rattle.steps.specs.Walk.{Entries, entries, off_top, pushed, popped, kept, Machine, local, step, after}
 use Rattle.steps.specs.declared.step.Step.{Step}
-use Rattle.steps.specs.declared.step.Step.TheVariants.{Put, Slot, Local, Keep, Apply, Assign}
+use Rattle.steps.specs.declared.step.Step.TheVariants.{Local, Keep, Apply, Assign}
 
 took : (r : Result Unit Fault) → is_ok r ≡ true → r ≡ Ok tt
 took (Ok u) e = refl

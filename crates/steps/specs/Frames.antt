@@ -1,5 +1,5 @@
 -- The entries of a frame, and what a call on it answers and leaves. Assumes nothing.
-use Rattle.std.specs.Prelude.{List, reverse, take, Ok, Err, Result}
+use Rattle.std.specs.Prelude.{reverse, take, Ok, Err, Result}
 use Rattle.fault.specs.declared.Fault.{Fault}
 use Rattle.steps.specs.declared.frame.Frame.{Frame}
 use Rattle.steps.specs.Walk.{Entries, entries}

@@ -1,5 +1,5 @@
 -- Which steps a rule takes: a local is below 8, and a literal is a unit, bool, int, float or char. Assumes nothing.
-use Rattle.std.specs.Prelude.{ℕ, Bool, true, ◌&&◌, List, [], ◌∷◌, is_ok, Ok, Err, Result, nat_lt}
+use Rattle.std.specs.Prelude.{ℕ, Bool, true, ◌&&◌, List, [], ◌∷◌, is_ok, Ok, Result, nat_lt}
 use Rattle.fault.specs.Refusals.{unless}
 use Rattle.fault.specs.declared.Fault.{Fault}
 use Rattle.fault.specs.declared.Fault.TheVariants.{Unknown, Malformed}

@@ -1,5 +1,5 @@
 -- A whole table's values are well formed, as every shelf shows of its make.
-use Rattle.std.specs.Prelude.{◌≡◌, ℕ, true, ◌&&◌, List, [], ◌∷◌, length, take, drop, nat_le, refl}
+use Rattle.std.specs.Prelude.{◌≡◌, ℕ, true, List, [], ◌∷◌, length, take, drop, nat_le, refl}
 use Rattle.std.proofs.lemmas.Bool.{and_parts, and_from}
 use Rattle.value.specs.Values.{well_formed, text_in}
 use Rattle.shelf.specs.Slots.{all_formed}

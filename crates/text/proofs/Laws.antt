@@ -1,6 +1,6 @@
 -- The laws of texts, for this crate and those above: what a laid text leaves, where it is found again, and UTF-8 as a test.
-use Rattle.std.proofs.Common.{◌≡◌, ℕ, ◌+◌, ◌-◌, ◌<◌, ◌≤◌, min, Bool, true, false, cond, List, ◌++◌, length, take, drop, Ok, Err, IsUtf8, Decides, sym, refl, ap, ◌∙◌, inl, inr, append_assoc, add_assoc, arith, length-append, length-drop, length-take, take-take, drop-drop, take_at, drop_at}
-use lib.Seq.{take-append-le, paste}
+use Rattle.std.proofs.Common.{◌≡◌, ℕ, ◌+◌, ◌-◌, ◌<◌, ◌≤◌, min, List, ◌++◌, length, take, drop, Ok, Err, IsUtf8, Decides, sym, refl, ap, ◌∙◌, inl, inr, append_assoc, add_assoc, arith, length-append, length-drop, length-take, take-take, drop-drop, take_at, drop_at}
+use lib.Seq.{take-append-le}
 use Rattle.std.proofs.lemmas.List.{drop-take, length-take-le, take_all, drop_all}
 use Rattle.std.proofs.lemmas.Bool.{cases_lt, le-leb, lt-leb, and_parts, and_from}
 use Rattle.fault.specs.declared.Fault.TheVariants.{BufferShort}
@@ -10,7 +10,7 @@ use Rattle.std.specs.Str.{chars, bytes_eq}
 use Rattle.std.proofs.lemmas.Slice.Eq.{bytes_eq-Decides}
 use Rattle.std.proofs.lemmas.Str.{encodes-chars, scalars-chars}
 use Rattle.text.specs.Scalars.{utf8}
-use Rattle.text.specs.Buffers.{span, span_text, within, laid, Stored, stored}
+use Rattle.text.specs.Buffers.{span, span_text, within, laid, stored}
 
 pub length_span : (d : List ℕ) (s : Span) → within s (length d) → length (span_text d s) ≡ s.len
 length_span d s h = simp (length-take, length-drop) (omega arith)

@@ -1,14 +1,13 @@
 -- The first scalars of a text, and why the byte order of two texts is the order of their scalars.
-use Rattle.std.proofs.Common.{◌≡◌, ℕ, ◌+◌, ◌/◌, ◌%◌, ◌<◌, ◌≤◌, ltb, ◌⊎◌, List, [], ◌∷◌, ◌++◌, length, Some, None, IsUtf8, Option, sym, refl, ap, ◌∙◌, subst, inl, inr, arith, length-append}
+use Rattle.std.proofs.Common.{◌≡◌, ℕ, ◌+◌, ◌/◌, ◌%◌, ◌<◌, ◌≤◌, ◌⊎◌, List, [], ◌∷◌, ◌++◌, length, Some, None, IsUtf8, Option, sym, refl, ap, ◌∙◌, subst, inl, inr, arith, length-append}
 use lib.Utf8.{encode, encodes, next}
 use Rattle.std.specs.Str.Iter.{chars_steps}
 use Rattle.std.specs.Str.{chars}
 use Rattle.std.specs.declared.str.Chars.{Chars}
 use Rattle.std.proofs.lemmas.Bool.{lt-ltb, le-ltb, cases_lt, cases_order}
 use Rattle.std.proofs.lemmas.Str.{encodes-chars, chars_past_char, IsUtf8-past_char, chars-nil, length-encode, len_utf8_bounds}
-use Rattle.order.specs.declared.traits.Order.{Order}
-use Rattle.order.specs.declared.traits.Order.TheVariants.{Less, Equal, Greater, Unordered}
-use Rattle.order.specs.Orders.{ranked, by_nat, by_option, by_sequence, or_else}
+use Rattle.order.specs.declared.traits.Order.TheVariants.{Less, Equal, Greater}
+use Rattle.order.specs.Orders.{by_nat, by_sequence, or_else}
 use Rattle.text.specs.Scalars.{first_two, BytesOrderAsScalars, TwoScalarsSuffice}
 use Rattle.text.proofs.Laws.{utf8_decides}
 

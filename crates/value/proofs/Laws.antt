@@ -1,12 +1,12 @@
 -- The laws of kinds, operators and values, for the crates above. Each kind and operator stands in its list at its number, so
 -- that what a test says of the whole list holds of each; and a value keeps its meaning wherever its text is read.
-use Rattle.std.proofs.Common.{◌≡◌, ℕ, zero, suc, Bool, true, ◌&&◌, List, [], ◌∷◌, Some, None, sym, refl, ap, ◌∙◌, arith}
+use Rattle.std.proofs.Common.{◌≡◌, ℕ, zero, suc, Bool, true, ◌&&◌, List, [], ◌∷◌, Some, sym, refl, ap, ◌∙◌, arith}
 use Rattle.std.specs.Option.{option_map}
 use Rattle.std.specs.List.{slice_get}
 use Rattle.std.proofs.lemmas.Bool.{and_parts, eqb-true}
 use Rattle.value.specs.Kinds.{kinds, kind_number, is_kind}
 use Rattle.value.specs.Ops.{ops, op_number}
-use Rattle.value.specs.Values.{Meaning, str, blob, kind_in, text_of, meaning, kind_of, text_in, with_text}
+use Rattle.value.specs.Values.{str, blob, kind_in, text_of, meaning, kind_of, text_in, with_text}
 use Rattle.value.specs.declared.value.Value.{Value}
 use Rattle.value.specs.declared.value.Value.TheVariants as value
 use Rattle.value.specs.declared.kind.Kind.{Kind}

@@ -1,5 +1,5 @@
 -- The operators with their numbers. Assumes nothing.
-use Rattle.std.specs.Prelude.{ℕ, Bool, eqb, List, [], ◌∷◌}
+use Rattle.std.specs.Prelude.{ℕ, List, [], ◌∷◌}
 use Rattle.value.specs.declared.op.Op.{Op}
 use Rattle.value.specs.declared.op.Op.TheVariants.{Plus, Minus, Multiply, Divide, Modulo, PowerOf, LeftShift, RightShift, Ampersand, Pipe, XOr, EqualsTo, NotEqualsTo, LessThan, LessThanEqualsTo, GreaterThan, GreaterThanEqualsTo, ExclusiveRange, InclusiveRange}
 

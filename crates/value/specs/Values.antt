@@ -1,6 +1,6 @@
 -- What a value means: its kind, and its text as bytes, wherever they lie. Every statement about values above this crate
 -- speaks of meanings. Assumes nothing.
-use Rattle.std.specs.Prelude.{◌≡◌, ℕ, ◌≤◌, Bool, true, false, cond, ◌&&◌, List, [], ◌∷◌, length, ℤ, Some, None, Ok, Err, Option, Result, nat_le, Float}
+use Rattle.std.specs.Prelude.{ℕ, Bool, true, cond, ◌&&◌, List, length, ℤ, Some, None, Ok, Err, Option, Result, nat_le, Float}
 use Rattle.std.proofs.Math.Utf8.{scalar}
 use Rattle.fault.specs.declared.Fault.{Fault}
 use Rattle.fault.specs.declared.Fault.TheVariants.{BufferShort}

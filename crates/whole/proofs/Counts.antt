@@ -1,10 +1,10 @@
-use Rattle.std.proofs.Common.{◌≡◌, ℕ, zero, suc, ◌+◌, ◌-◌, ◌*◌, ◌/◌, ◌%◌, ◌^◌, ◌<◌, ◌≤◌, true, ℤ, pos, negsuc, ◌+ℤ◌, ◌*ℤ◌, neg_ℤ, nat_abs, Some, None, Option, unwrap_or, sym, refl, ap, ◌∙◌, mul-le-mul_right, mul_assoc, mul_comm, add-mul, mul-le-mul_left, arith, pow_pos, pow_mono, pow-add, w64, SFits, to_z, of_z, ltb-true}
+use Rattle.std.proofs.Common.{◌≡◌, ℕ, suc, ◌+◌, ◌-◌, ◌*◌, ◌%◌, ◌^◌, ◌<◌, ◌≤◌, true, ℤ, pos, negsuc, ◌+ℤ◌, ◌*ℤ◌, neg_ℤ, nat_abs, Some, None, Option, unwrap_or, sym, refl, ap, ◌∙◌, mul_assoc, mul_comm, add-mul, arith, pow_pos, pow_mono, pow-add, w64, SFits, to_z, of_z, ltb-true}
 use native.Mathlib.Nat.{mul-mod_left, div-eq_of_lt}
-use lib.Signed.{shr_z, mag, lt_z}
+use lib.Signed.{shr_z, lt_z}
 use Rattle.std.proofs.lemmas.Bool.{false≢true}
 use Rattle.whole.specs.Whole.{shifted_left, shifted_right}
 use Rattle.std.specs.Option.{SomeIff}
-use Rattle.std.specs.Int.{int_rem_euclid, int_wrap}
+use Rattle.std.specs.Int.{int_wrap}
 use Rattle.std.proofs.lemmas.Int.{int_rem_euclid_is, ints}
 
 -- -p + q, for a p up to q

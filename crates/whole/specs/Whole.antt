@@ -1,6 +1,6 @@
 -- The whole-number operations from arithmetic: exact or refused, shifts by any count, bits in two's complement.
 -- Assumes nothing.
-use Rattle.std.specs.Prelude.{ℕ, suc, ◌-◌, ◌^◌, min, Bool, true, false, cond, ℤ, pos, negsuc, ◌+ℤ◌, ◌-ℤ◌, ◌*ℤ◌, Ok, Err, Result, ◌==◌, bit_and, bit_or, bit_xor, int_div, int_rem, nat_lt, unsigned_abs}
+use Rattle.std.specs.Prelude.{ℕ, suc, ◌-◌, ◌^◌, min, Bool, cond, ℤ, pos, negsuc, ◌+ℤ◌, ◌-ℤ◌, ◌*ℤ◌, Ok, Err, Result, ◌==◌, bit_and, bit_or, bit_xor, int_div, int_rem, nat_lt, unsigned_abs}
 use Rattle.std.specs.Int.Signed.{mag, shr_z}
 use Rattle.std.proofs.Common.{to_z, of_z}
 use Rattle.std.specs.Int.{int_pow, int_wrap, w64}

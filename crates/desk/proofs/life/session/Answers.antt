@@ -1,4 +1,4 @@
-use Rattle.std.proofs.Common.{◌≡◌, ◌<◌, min, [], length, take, drop, sym, ap, ◌∙◌, subst, arith}
+use Rattle.std.proofs.Common.{◌≡◌, ◌<◌, [], length, take, drop, sym, ap, ◌∙◌, subst, arith}
 use Rattle.desk.specs.Book.{fed, book}
 use Rattle.desk.specs.Desks.{events, AllLawful}
 use Rattle.desk.proofs.Lives.{along_none, along_more}

@@ -1,4 +1,4 @@
-use Rattle.std.proofs.Common.{◌≡◌, T, sym, subst, rules}
+use Rattle.std.proofs.Common.{T, sym, subst, rules}
 use lib.Ieee.{fits, binary64}
 use Rattle.float.specs.Exactly.{Exact}
 use Rattle.float.specs.Agreement.{Agrees}

@@ -1,5 +1,5 @@
 use Rattle.std.proofs.Common.{length, ap, ◌∙◌, arith}
-use Rattle.std.proofs.lemmas.List.{drop-set-lt, take_all}
+use Rattle.std.proofs.lemmas.List.{drop-set-lt}
 use Rattle.format.proofs.Hex.{pairs_more, pairs_none, length_pairs, pairs_all}
 use Rattle.format.proofs.hexadecimal.read_pairs.Goals as goal
 

@@ -2,7 +2,7 @@ use Rattle.std.proofs.Common.{◌≡◌, get_or, take, Some, sym, refl, ap, ◌�
 use Rattle.std.proofs.lemmas.List.{get_or-take}
 use Rattle.value.specs.Ops.{ops}
 use Rattle.value.specs.declared.op.Op.TheVariants.{Plus}
-use Rattle.format.specs.Names.{assign_name, assign_named}
+use Rattle.format.specs.Names.{assign_name}
 use Rattle.format.proofs.Naming.{named_hit, named_more, named_none}
 use Rattle.format.proofs.names.assign_named.Goals as goal
 

@@ -1,6 +1,6 @@
 use Rattle.std.proofs.Common.{sym, refl, ◌∙◌}
 use Rattle.value.specs.Kinds.{kinds}
-use Rattle.format.specs.Names.{kind_name, kind_named}
+use Rattle.format.specs.Names.{kind_name}
 use Rattle.format.proofs.Naming.{named_hit, named_more, named_none}
 use Rattle.format.proofs.names.kind_named.Goals as goal
 

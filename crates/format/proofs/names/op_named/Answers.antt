@@ -1,6 +1,6 @@
 use Rattle.std.proofs.Common.{sym, refl, ◌∙◌}
 use Rattle.value.specs.Ops.{ops}
-use Rattle.format.specs.Names.{op_name, op_named}
+use Rattle.format.specs.Names.{op_name}
 use Rattle.format.proofs.Naming.{named_hit, named_more, named_none}
 use Rattle.format.proofs.names.op_named.Goals as goal
 

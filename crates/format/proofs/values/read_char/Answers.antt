@@ -1,4 +1,4 @@
-use Rattle.std.proofs.Common.{◌≡◌, length, sym, ap, ◌∙◌, arith, rules}
+use Rattle.std.proofs.Common.{length, sym, ap, ◌∙◌, arith, rules}
 use Rattle.format.proofs.Chars.{text_of_char, char_ok, char_none, char_some}
 use Rattle.format.proofs.values.read_char.Goals as goal
 

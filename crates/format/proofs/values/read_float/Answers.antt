@@ -1,4 +1,4 @@
-use Rattle.std.proofs.Common.{sym, arith}
+use Rattle.std.proofs.Common.{arith}
 use Rattle.format.proofs.Floats.{no_number, float_ok, bits_lt, bits_are_number, is_number}
 use Rattle.format.proofs.values.read_float.Goals as goal
 

@@ -1,4 +1,4 @@
-use Rattle.std.proofs.Common.{◌≡◌, ◌∷◌, ◌++◌, sym, ap, ◌∙◌, to_z-of_z, w64, SFits, rules}
+use Rattle.std.proofs.Common.{◌∷◌, ◌++◌, sym, ap, ◌∙◌, to_z-of_z, w64, SFits, rules}
 use Rattle.format.specs.Fields.{fields_of}
 use Rattle.format.proofs.Ranges.{no_rest, first_is, rest_is, two_parts}
 use Rattle.format.proofs.values.read_range.Goals as goal

@@ -1,4 +1,4 @@
-use Rattle.std.proofs.Common.{◌≡◌, ◌∷◌, length, Some, ap, ◌∙◌, arith}
+use Rattle.std.proofs.Common.{◌∷◌, length, ap, ◌∙◌, arith}
 use Rattle.format.specs.Fields.{fields_of}
 use Rattle.format.proofs.Ranges.{shorter}
 use Rattle.input.specs.Lines.{begun, longer}

@@ -1,4 +1,4 @@
-use Rattle.std.proofs.Common.{◌≡◌, sym, subst}
+use Rattle.std.proofs.Common.{sym, subst}
 use Rattle.line.specs.Commands.{ShortIfSome}
 use Rattle.line.proofs.Shaped.{line_short}
 use Rattle.line.proofs.commands.read_line.Goals as goal

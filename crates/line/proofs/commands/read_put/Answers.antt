@@ -1,4 +1,4 @@
-use Rattle.std.proofs.Common.{◌≡◌, is_ok, sym, ap, ◌∙◌, arith}
+use Rattle.std.proofs.Common.{is_ok, sym, ap, ◌∙◌, arith}
 use Rattle.line.proofs.Asking.{puts, no_literal, no_put, is_done}
 use Rattle.line.proofs.commands.read_put.Goals as goal
 

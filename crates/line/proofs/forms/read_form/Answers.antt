@@ -1,4 +1,4 @@
-use Rattle.std.proofs.Common.{◌≡◌, ◌∷◌, sym, ap, ◌∙◌}
+use Rattle.std.proofs.Common.{◌∷◌, sym, ap, ◌∙◌}
 use Rattle.format.specs.Fields.{fields_of}
 use Rattle.line.proofs.Shaped.{five}
 use Rattle.line.proofs.forms.read_form.Goals as goal

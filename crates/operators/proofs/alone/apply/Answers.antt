@@ -1,4 +1,4 @@
-use Rattle.std.proofs.Common.{◌≡◌, ℕ, ◌-◌, take, sym, ◌∙◌, zero-le}
+use Rattle.std.proofs.Common.{◌-◌, take, sym, ◌∙◌, zero-le}
 use native.Mathlib.Nat.{sub-zero}
 use Rattle.std.proofs.lemmas.Bool.{and_parts}
 use Rattle.value.specs.Values.{meaning, well_formed}

@@ -1,4 +1,4 @@
-use Rattle.std.proofs.Common.{◌≡◌, ℕ, ◌%◌, ◌^◌, ◌<◌, [], ◌∷◌, ℤ, nat_abs, Ok, sym, ap, ◌∙◌, mod-lt, arith, lit<, w64, to_z, of_z}
+use Rattle.std.proofs.Common.{◌≡◌, ◌%◌, ◌^◌, ◌<◌, [], ◌∷◌, ℤ, nat_abs, Ok, sym, ap, ◌∙◌, arith, w64, to_z, of_z}
 use lib.Bits.{bit_and, and_mask}
 use Rattle.std.proofs.lemmas.Int.{to_z_pos}
 use Rattle.routines.specs.Calls.{as_bytes}

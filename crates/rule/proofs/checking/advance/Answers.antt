@@ -1,11 +1,11 @@
-use Rattle.std.proofs.Common.{◌≡◌, get_or, Ok, Err, sym, ap, ◌∙◌}
+use Rattle.std.proofs.Common.{get_or, Ok, Err, sym, ap, ◌∙◌}
 use Rattle.std.proofs.lemmas.Result.{err_from_is_err_and}
 use Rattle.fault.specs.Refusals.{bind}
 use Rattle.value.specs.Kinds.{set}
 use Rattle.shelf.specs.Slots.{holding}
 use Rattle.steps.specs.Steps.{takes}
 use Rattle.fault.specs.Outcomes.{beside}
-use Rattle.steps.specs.Walk.{step, pushed, kept}
+use Rattle.steps.specs.Walk.{step, kept}
 use Rattle.steps.specs.Frames.{held, done, leaving}
 use Rattle.steps.proofs.Laws.{popped_locals, local_read, load_step, assign_step}
 use Rattle.rule.specs.Check.{sets}

@@ -1,4 +1,4 @@
-use Rattle.std.proofs.Common.{◌≡◌, ◌<◌, length, get_or, None, sym, ap, ◌∙◌, arith}
+use Rattle.std.proofs.Common.{◌<◌, length, get_or, None, sym, ap, ◌∙◌, arith}
 use Rattle.shelf.specs.Slots.{holding}
 use Rattle.rule.specs.Check.{same_kind}
 use Rattle.rule.proofs.Fresh.{fresh_more, fresh_stops, fresh_done}

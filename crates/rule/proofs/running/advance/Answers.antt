@@ -1,9 +1,7 @@
-use Rattle.std.proofs.Common.{◌≡◌, ◌<◌, [], map, length, get_or, Ok, Err, sym, ap, ◌∙◌, subst, arith}
+use Rattle.std.proofs.Common.{◌<◌, map, length, get_or, Ok, Err, sym, ap, ◌∙◌, subst, arith}
 use Rattle.std.proofs.lemmas.Result.{err_from_is_err_and}
-use Rattle.fault.specs.Outcomes.{beside}
 use Rattle.value.specs.Values.{unit, meant}
 use Rattle.value.specs.declared.value.Value.TheVariants as value
-use Rattle.operators.specs.Applied.{Held}
 use Rattle.operators.specs.Rooms.{room, applied_in, assigned_in}
 use Rattle.shelf.specs.Slots.{holding}
 use Rattle.steps.specs.Frames.{held, leaving}

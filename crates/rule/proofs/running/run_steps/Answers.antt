@@ -1,4 +1,4 @@
-use Rattle.std.proofs.Common.{◌-◌, ◌∙◌, arith}
+use Rattle.std.proofs.Common.{◌-◌, ◌∙◌}
 use native.Mathlib.Nat.{sub-zero}
 use Rattle.shelf.specs.Slots.{holding}
 use Rattle.rule.proofs.Walking.{walks_end}

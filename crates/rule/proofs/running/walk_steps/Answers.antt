@@ -1,4 +1,4 @@
-use Rattle.std.proofs.Common.{◌≡◌, get_or, Err, sym, ap, ◌∙◌, subst, arith}
+use Rattle.std.proofs.Common.{get_or, Err, sym, ap, ◌∙◌, subst, arith}
 use Rattle.std.proofs.lemmas.Result.{err_from_is_err_and}
 use Rattle.value.specs.declared.value.Value.TheVariants as value
 use Rattle.shelf.specs.Slots.{holding}

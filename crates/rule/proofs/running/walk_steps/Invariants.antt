@@ -1,4 +1,4 @@
-use Rattle.std.proofs.Common.{◌≡◌, ℕ, ◌≤◌, List, length, drop}
+use Rattle.std.proofs.Common.{◌≡◌}
 use Rattle.shelf.specs.Slots.{holding}
 use Rattle.steps.specs.Frames.{held}
 use Rattle.rule.proofs.Walking.{Far}

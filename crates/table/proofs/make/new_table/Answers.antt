@@ -1,4 +1,4 @@
-use Rattle.std.proofs.Common.{◌≡◌, length, is_ok, sym, ap, ◌∙◌, arith}
+use Rattle.std.proofs.Common.{length, is_ok, sym, ap, ◌∙◌, arith}
 use Rattle.std.proofs.lemmas.List.Edits.{fill_by_more}
 use Rattle.std.proofs.lemmas.Bool.{cond-true}
 use Rattle.table.specs.Rows.{blank, rows, whole, tested}

@@ -1,4 +1,4 @@
-use Rattle.std.proofs.Common.{◌≡◌, ℕ, ◌+◌, ◌<◌, ◌≤◌, ◌++◌, length, Ok, sym, refl, ap, ◌∙◌, arith, length-append}
+use Rattle.std.proofs.Common.{◌≡◌, ℕ, ◌+◌, ◌++◌, length, Ok, sym, ap, ◌∙◌, arith, length-append}
 use Rattle.text.specs.Buffers.{Stored, span}
 use Rattle.text.specs.Pieces.{piece_bytes}
 use Rattle.text.proofs.Laws.{length_laid, stored_fits, stored_short}

@@ -1,5 +1,4 @@
-use Rattle.std.proofs.Common.{◌≡◌, ◌^◌, unwrap_or, ap, ◌∙◌, w64, SFits, to_z, of_z, rules}
-use lib.Signed.{shr_z}
+use Rattle.std.proofs.Common.{unwrap_or, ap, ◌∙◌, w64, SFits, rules}
 use Rattle.std.proofs.lemmas.Int.{to_z-of_z}
 use Rattle.whole.proofs.Counts.{right_either}
 use Rattle.whole.proofs.shifts.right_by.Goals as goal

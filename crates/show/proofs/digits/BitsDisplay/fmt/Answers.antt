@@ -1,4 +1,3 @@
-use Rattle.std.proofs.Common.{arith}
 use Rattle.show.proofs.Spelling.{put_is, sixteen}
 use Rattle.show.proofs.digits.BitsDisplay.fmt.Goals as goal
 

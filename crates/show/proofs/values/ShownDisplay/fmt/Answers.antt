@@ -1,4 +1,4 @@
-use Rattle.std.proofs.Common.{◌≡◌, ◌++◌, codes, sym, ap, ◌∙◌}
+use Rattle.std.proofs.Common.{◌++◌, codes, sym, ap, ◌∙◌}
 use Rattle.value.specs.Values.{meaning}
 use Rattle.format.specs.Written.{figures}
 use Rattle.show.specs.Shown.{shown_value}

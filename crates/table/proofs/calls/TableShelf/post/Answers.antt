@@ -1,10 +1,9 @@
-use Rattle.std.proofs.Common.{◌≡◌, ◌*◌, ◌<◌, ◌≤◌, length, set, sym, refl, ap, ◌∙◌, arith}
+use Rattle.std.proofs.Common.{◌<◌, ◌≤◌, set, sym, ap, ◌∙◌, arith}
 use Rattle.value.specs.Values.{meaning, text_of, size}
 use Rattle.shelf.specs.Calls.{Posted}
 use Rattle.shelf.proofs.Laws.{posted_at_lem, posted_open, posted_over}
 use Rattle.table.specs.Rows.{rows, whole}
 use Rattle.table.specs.Tables.{table_slots}
-use Rattle.table.specs.declared.record.Record.{Record}
 use Rattle.table.proofs.Rowed.{past_rows, nth_rows, whole_at}
 use Rattle.table.proofs.Written.{with_text_lem, without_text, size_some, size_none}
 use Rattle.table.proofs.calls.TableShelf.post.Goals as goal
