@@ -1,3 +1,5 @@
 mod Exact
 mod Literals
 mod Agree
+mod Patterned
+mod Remaining

@@ -4,3 +4,4 @@ pub mod Exactly
 pub mod Agreement
 pub mod Worked
 pub mod Exchange
+pub mod Patterns

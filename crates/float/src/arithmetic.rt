@@ -4,6 +4,7 @@ ghost use Rattle.std.specs.Float.{binary64};
 ghost use Rattle.std.specs.Float.Ieee.{of_int};
 ghost use Rattle.float.specs.Operations.{computed_float};
 
+use crate::remainder::remainder;
 use std::num::nearest_i64_to_f64;
 
 #[derive(Clone, Copy, PartialEq, Eq, Debug)]
@@ -23,7 +24,7 @@ pub fn compute_float(operation: FloatArithmetic, x: f64, y: f64) -> f64
         FloatArithmetic::Subtract => x - y,
         FloatArithmetic::Multiply => x * y,
         FloatArithmetic::Divide => x / y,
-        FloatArithmetic::Modulo => x % y,
+        FloatArithmetic::Modulo => remainder(x, y),
     }
 }
 

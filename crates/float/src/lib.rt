@@ -4,6 +4,7 @@
 pub mod arithmetic;
 pub mod compare;
 pub mod laws;
+mod remainder;
 
 pub use arithmetic::{FloatArithmetic, compute_float, nearest_float};
 pub use compare::{Float, compare_floats};
