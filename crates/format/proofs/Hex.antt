@@ -1,7 +1,7 @@
 use Rattle.std.proofs.Common.{◌≡◌, ℕ, zero, suc, ◌+◌, ◌*◌, ◌/◌, ◌%◌, ◌^◌, ◌<◌, ◌≤◌, List, [], ◌∷◌, ◌++◌, length, get_or, take, set, sym, refl, ap, ◌∙◌, subst, append_assoc, pow-suc, arith, lit<, length-append}
 use native.Mathlib.Nat.{pow-le-pow_right}
 use Rattle.std.proofs.lemmas.List.{take_more, take_all, take_more_set}
-use Rattle.std.specs.List.{AllByRecursion as All}
+use Rattle.std.specs.List.{AllByRecursion}
 use Rattle.std.proofs.ByRecursion.{All-push, All-get_or}
 use Rattle.format.specs.Written.{figure, figures, pairs}
 
@@ -18,7 +18,7 @@ length_figures (suc k) n = length-append (figures k (n / 16)) _ ∙ omega (arith
 abbrev pub Hex : ℕ → Type 0
 Hex b = (d : ℕ) × (d < 16) × (figure d ≡ b)
 
-pub hex_all : (k n : ℕ) → All Hex (figures k n)
+pub hex_all : (k n : ℕ) → AllByRecursion Hex (figures k n)
 hex_all zero n = tt
 hex_all (suc k) n = All-push _ _ _ (hex_all k (n / 16)) (n % 16, omega arith, refl)
 
@@ -51,13 +51,13 @@ pub length_pairs : (bs : List ℕ) → length (pairs bs) ≡ 2 * length bs
 length_pairs [] = refl
 length_pairs (x ∷ bs) = omega (arith, length_pairs bs)
 
-hex_pairs : (bs : List ℕ) → All (λ b. b < 256) bs → All Hex (pairs bs)
+hex_pairs : (bs : List ℕ) → AllByRecursion (λ b. b < 256) bs → AllByRecursion Hex (pairs bs)
 hex_pairs [] h = tt
 hex_pairs (b ∷ bs) h = ((b / 16, omega (arith, h.0), refl), ((b % 16, omega arith, refl), hex_pairs bs h.1))
 
-pub pairs_none : (bs vs : List ℕ) (i : ℕ) → All (λ b. b < 256) vs → pairs vs ≡ bs → i < length bs → ((d : ℕ) → d < 16 → figure d ≡ get_or bs i 0 → ⊥) → ⊥
+pub pairs_none : (bs vs : List ℕ) (i : ℕ) → AllByRecursion (λ b. b < 256) vs → pairs vs ≡ bs → i < length bs → ((d : ℕ) → d < 16 → figure d ≡ get_or bs i 0 → ⊥) → ⊥
 pairs_none bs vs i small e lt h =
-    let x = All-get_or Hex bs i 0 lt (subst (All Hex) e (hex_pairs vs small)) in h x.0 x.1 x.2
+    let x = All-get_or Hex bs i 0 lt (subst (AllByRecursion Hex) e (hex_pairs vs small)) in h x.0 x.1 x.2
 
 take_two : (bs : List ℕ) (i : ℕ) → 2 * i + 1 < length bs → take (2 * (i + 1)) bs ≡ take (2 * i) bs ++ (get_or bs (2 * i) 0 ∷ get_or bs (2 * i + 1) 0 ∷ [])
 take_two bs i lt =

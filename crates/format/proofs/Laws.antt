@@ -1,7 +1,7 @@
 -- What the crates above use: a value that is written in few bytes needs little room, and a field is no longer than its line.
 use Rattle.std.proofs.Common.{◌≡◌, ℕ, ◌+◌, ◌*◌, ◌≤◌, Bool, true, false, cond, eqb, List, [], ◌∷◌, length, refl, arith}
 use lib.Utf8.{encode}
-use Rattle.std.specs.List.{AllByRecursion as All}
+use Rattle.std.specs.List.{AllByRecursion}
 use Rattle.value.specs.Values.{Meaning, unit, bool, int, float, char, str, blob, excl, incl}
 use Rattle.format.specs.Fields.{fields, onto}
 use Rattle.format.specs.Reading.{ReadableIn}
@@ -20,7 +20,7 @@ readable_in room room' (excl a b) h f = f
 readable_in room room' (incl a b) h f = f
 
 abbrev pub Within : ℕ → List (List ℕ) → Type 0
-Within n fs = All (λ f. length f ≤ n) fs
+Within n fs = AllByRecursion (λ f. length f ≤ n) fs
 
 wider : (n m : ℕ) (fs : List (List ℕ)) → n ≤ m → Within n fs → Within m fs
 wider n m [] le h = tt

@@ -6,7 +6,7 @@ use Rattle.std.specs.Float.Ieee.{fits}
 use Rattle.std.proofs.Math.Utf8.{encode, scalar}
 use Rattle.std.specs.Int.{w64}
 use Rattle.std.specs.Fmt.{signed_decimal}
-use Rattle.std.specs.List.{AllByRecursion as All}
+use Rattle.std.specs.List.{AllByRecursion}
 use Rattle.std.specs.Option.{option_map}
 use Rattle.text.specs.Buffers.{span_text, within}
 use Rattle.text.specs.Scalars.{utf8}
@@ -36,7 +36,7 @@ abbrev pub Number : Float → Type 0
 Number x = T (fits binary64 x) × T (not (is_nan x))
 
 abbrev pub Bytes : List ℕ → Type 0
-Bytes bs = All (λ b. b < 256) bs
+Bytes bs = AllByRecursion (λ b. b < 256) bs
 
 -- a value that can be read, with at most `room` bytes of text: no NaN is
 abbrev pub Readable : ℕ → Meaning → Type 0
