@@ -36,7 +36,7 @@ fn find_divisor(x: f64, y: f64) -> f64
     }
 }
 
-// The larger of two, and the first where neither is.
+// The larger of two; of two equal ones the first, and beside a NaN the other.
 fn larger(x: f64, y: f64) -> f64
     ensures { result ≡ float_max x y }
 {

@@ -48,6 +48,9 @@ fn pattern_of(m: u64, k: u64) -> u64
     ensures count { count_in result ≡ m * 2 ^ k }
     ensures finite { result < 2047 * 2 ^ 52 }
 {
+    if m == 0 {
+        return 0;
+    }
     let mut digits = m;
     let mut place = k;
     'lead: while digits < FIELD && place > 0 {
