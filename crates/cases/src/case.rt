@@ -1,4 +1,8 @@
 // A line by its eight fields.
+ghost use Rattle.std.specs.Prelude.{◌≡◌, option_map};
+ghost use Rattle.format.specs.Fields.{fields};
+ghost use Rattle.cases.specs.Cases.{spelled, form_named, case_of};
+
 use format::cuts::{cut_at, same};
 
 // Whether an operator gives a value or assigns to its left operand.
@@ -24,7 +28,11 @@ pub struct Case<'a> {
     pub blob: &'a [u8],
 }
 
-fn form_named(name: &[u8]) -> Option<Form> {
+const TAB: u8 = b'\t';
+
+fn form_named(name: &[u8]) -> Option<Form>
+    ensures { result ≡ form_named name.now }
+{
     if same(name, b"apply") {
         Some(Form::Apply)
     } else if same(name, b"assign") {
@@ -34,36 +42,33 @@ fn form_named(name: &[u8]) -> Option<Form> {
     }
 }
 
-// The field before the next tab, which is taken off with its tab.
-fn next<'a>(line: &mut &'a [u8]) -> Option<&'a [u8]> {
-    let cut = cut_at(*line, b'\t');
-    *line = cut.rest?;
-    Some(cut.first)
-}
-
-fn next_operand<'a>(line: &mut &'a [u8]) -> Option<Operand<'a>> {
-    let kind = next(line)?;
-    let value = next(line)?;
-    Some(Operand { kind, value })
-}
-
-pub fn read_case<'a>(line: &'a [u8]) -> Option<Case<'a>> {
-    let mut rest = line;
-    let form = form_named(next(&mut rest)?)?;
-    let op = next(&mut rest)?;
-    let left = next_operand(&mut rest)?;
-    let right = next_operand(&mut rest)?;
-    let string = next(&mut rest)?;
-    let blob = cut_at(rest, b'\t');
+pub fn read_case<'a>(line: &'a [u8]) -> Option<Case<'a>>
+    ensures { option_map spelled result ≡ case_of (fields 9 line.now) }
+{
+    let name = cut_at(line, TAB);
+    let op = cut_at(name.rest?, TAB);
+    let left_kind = cut_at(op.rest?, TAB);
+    let left_value = cut_at(left_kind.rest?, TAB);
+    let right_kind = cut_at(left_value.rest?, TAB);
+    let right_value = cut_at(right_kind.rest?, TAB);
+    let string = cut_at(right_value.rest?, TAB);
+    let blob = cut_at(string.rest?, TAB);
     if blob.rest.is_some() {
         return None;
     }
+    let form = form_named(name.first)?;
     Some(Case {
         form,
-        op,
-        left,
-        right,
-        string,
+        op: op.first,
+        left: Operand {
+            kind: left_kind.first,
+            value: left_value.first,
+        },
+        right: Operand {
+            kind: right_kind.first,
+            value: right_value.first,
+        },
+        string: string.first,
         blob: blob.first,
     })
 }
