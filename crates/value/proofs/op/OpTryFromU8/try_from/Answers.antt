@@ -5,7 +5,7 @@ use Rattle.std.specs.List.{slice_get}
 use Rattle.std.proofs.lemmas.Option.{slice_get-get_or, slice_get_past}
 use Rattle.fault.specs.declared.Fault.TheVariants.{Unknown}
 use Rattle.value.specs.Ops.{ops}
-use Rattle.value.proofs.op.Op.from_number.Goals as goal
+use Rattle.value.proofs.op.OpTryFromU8.try_from.Goals as goal
 
 item_nth : {X : Type 0} (xs : List X) (i : ℕ) (r : Option (Bor X)) → IsGetResult xs i i r → option_map (λ x. x.now) r ≡ slice_get xs i
 item_nth xs i None h = sym (slice_get_past xs i h.3)
