@@ -5,6 +5,7 @@ ghost use Rattle.order.specs.Orders.{exchanged, order_number, ordered};
 
 use std::cmp::Ordering;
 
+// Kept apart from Option<Ordering>: a program in C reads the four answers by their numbers.
 #[derive(Clone, Copy, PartialEq, Eq, Debug)]
 pub enum Order {
     Less,
