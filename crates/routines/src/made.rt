@@ -38,12 +38,11 @@ pub enum TextRule {
     ExtendBlob,
 }
 
-// What becomes of two texts: one of them is given back, they are joined within a limit, or they are over it.
+// What becomes of two texts: one of them is given back, or they are joined within a limit.
 #[derive(Clone, Copy)]
 pub enum Choice {
     Left,
     Right,
-    Refuse,
     Join { kind: TextKind, limit: usize },
 }
 
