@@ -134,12 +134,12 @@ module _ (work : List ℕ) (fill : ℕ) (inside : fill ≤ length work) (short :
 
   -- a call on two values that are held: it settles an outcome that agrees with its row
   pub held_gives : (row : Result KindSet Fault) (a b : Value Span) (g h : Result Given Fault) (r : Result Made Fault) (work' : List ℕ) (v : Result (Value Span) Fault) (n : ℕ)
-      → Held work fill a → Held work fill b → Listed row (meant work a) (meant work b) g → h ≡ g → Settles work fill h r work' → v ≡ given a b r → n ≡ filled fill r
+      → Held work fill a → Held work fill b → Listed row (meant work a) (meant work b) g → h ≡ g → Settles work fill h r work' n → v ≡ given a b r
       → Gives work fill (taken (meant work a) (meant work b) (room fill work) g) v work' n
-  held_gives row a b g h r work' v n p q i e s x y =
+  held_gives row a b g h r work' v n p q i e s x =
       let m = taken (meant work a) (meant work b) (room fill work) g in
       let answer : r ≡ (settled work fill g).answer = s.answer ∙ ap (λ o. (settled work fill o).answer) e in
       let bytes : work' ≡ (settled work fill g).bytes = s.bytes ∙ ap (λ o. (settled work fill o).bytes) e in
       subst (λ d. Gives work fill m v d n) (sym bytes)
       (subst (λ u. Gives work fill m u (settled work fill g).bytes n) (sym (x ∙ ap (given a b) answer))
-      (subst (λ k. Gives work fill m (given a b (settled work fill g).answer) (settled work fill g).bytes k) (sym (y ∙ ap (filled fill) answer)) (listed_gives row a b g p q i)))
+      (subst (λ k. Gives work fill m (given a b (settled work fill g).answer) (settled work fill g).bytes k) (sym (s.next ∙ ap (filled fill) answer)) (listed_gives row a b g p q i)))
