@@ -8,7 +8,7 @@ ghost use Rattle.operators.specs.Listed.{ApplyAsSelected};
 use crate::operate::operate;
 use fault::Fault;
 use routines::{Call, Limits, Made, Operand, Work};
-use text::{Span, Text};
+use text::Text;
 use value::{Op, Value, is_well_formed};
 
 // As much of a buffer is used as one text may have.
@@ -19,10 +19,7 @@ fn as_operand<'a>(value: Value<&'a [u8]>) -> Operand<'a>
     ensures same { (work : List ℕ) → operand work result ≡ meaning (λ x. x.now) value.entry }
     ensures ready { well_formed (meaning (λ x. x.now) value.entry) ≡ true → (work : List ℕ) (fill : ℕ) → Ready work fill result }
 {
-    match value.text() {
-        Some(text) => value.with_text(Text::Lent(text)),
-        None => value.with_text(Text::Part(Span { start: 0, len: 0 })),
-    }
+    value.map(Text::Lent)
 }
 
 fn are_well_formed(left: Value<&[u8]>, right: Value<&[u8]>) -> bool

@@ -1,9 +1,9 @@
 // Texts as operands: their order, their bytes, and new texts made of two of them.
-ghost use Rattle.std.specs.Prelude.{◌≡◌, ℕ, ◌≤◌, List, ◌++◌, length, IfOk, Ok};
+ghost use Rattle.std.specs.Prelude.{◌≡◌, ℕ, true, ◌≤◌, List, ◌++◌, length, IfOk, Ok};
 ghost use Rattle.std.specs.Str.{bytes_eq};
 ghost use Rattle.fault.specs.Refusals.{bind};
-ghost use Rattle.text.specs.Pieces.{text_bytes, piece_bytes, Below};
-ghost use Rattle.text.specs.Scalars.{by_scalars};
+ghost use Rattle.text.specs.Pieces.{text_bytes, piece_bytes, TextBelow, Below};
+ghost use Rattle.text.specs.Scalars.{utf8, by_scalars};
 ghost use Rattle.value.specs.Values.{meaning, text_in};
 ghost use Rattle.routines.specs.Calls.{as_bytes, as_blob, as_scalars, of, fresh, typed};
 ghost use Rattle.routines.specs.Outcomes.{operand, Ready, TextReady, Settles, valued, Pieced};
@@ -13,8 +13,20 @@ use crate::made::{Made, Operand, TextKind};
 use crate::work::Work;
 use fault::Fault;
 use order::{Comparing, Order};
-use text::{Piece, Span, compare_char_text, compare_text_char, compare_texts, join, text_bytes};
+use std::str::from_utf8_unchecked;
+use text::{
+    Piece, Span, Text, compare_char_text, compare_text_char, compare_texts, join, text_bytes,
+};
 use value::Value;
+
+// The text of a str, which is UTF-8.
+fn text_str<'a>(work: &'a [u8], text: Text<'a>) -> &'a str
+    requires below { TextBelow (length work.now) text }
+    requires utf8 { utf8 (text_bytes work.now text) ≡ true }
+    ensures { result.now ≡ text_bytes work.now text.entry }
+{
+    unsafe { from_utf8_unchecked(text_bytes(work, text)) }
+}
 
 // The order of two texts, each a char or a str.
 pub(crate) fn order_letters(work: &[u8], a: Operand, b: Operand) -> Result<Order, Fault>
@@ -24,12 +36,9 @@ pub(crate) fn order_letters(work: &[u8], a: Operand, b: Operand) -> Result<Order
 {
     match (a, b) {
         (Value::Char(c), Value::Char(d)) => Ok(c.compare(&d)),
-        (Value::Str(s), Value::Str(t)) => Ok(compare_texts(
-            text_bytes(work, s),
-            text_bytes(work, t),
-        )),
-        (Value::Char(c), Value::Str(t)) => Ok(compare_char_text(c, text_bytes(work, t))),
-        (Value::Str(s), Value::Char(d)) => Ok(compare_text_char(text_bytes(work, s), d)),
+        (Value::Str(s), Value::Str(t)) => Ok(compare_texts(text_str(work, s), text_str(work, t))),
+        (Value::Char(c), Value::Str(t)) => Ok(compare_char_text(c, text_str(work, t))),
+        (Value::Str(s), Value::Char(d)) => Ok(compare_text_char(text_str(work, s), d)),
         _ => Err(Fault::NoRow),
     }
 }

@@ -1,14 +1,21 @@
-use Rattle.std.proofs.Common.{◌≡◌, Ok, ap, rules}
+use Rattle.std.proofs.Common.{◌≡◌, Bool, true, false, cond, pos, Ok, refl, ap, ◌∙◌, rules}
 use Rattle.fault.specs.Refusals.{bind}
 use Rattle.order.specs.Orders.{by_int, by_bool}
 use Rattle.float.specs.Tolerance.{by_float}
 use Rattle.float.specs.declared.compare.Float.{Float}
 use Rattle.std.specs.Prelude.{Float as Number}
 use Rattle.text.specs.Pieces.{text_bytes}
-use Rattle.routines.specs.Outcomes.{operand}
+use Rattle.routines.specs.Outcomes.{operand, compared}
 use Rattle.routines.specs.Calls.{called}
 use Rattle.routines.proofs.Laws.{settles_read, settles_as, plain, settles_compared}
 use Rattle.routines.proofs.calls.FnBuiltinCall.call.Goals as goal
+
+-- false has the place before true
+placed : (x y : Bool) → by_int (pos (cond x 1 0)) (pos (cond y 1 0)) ≡ by_bool x y
+placed true true = refl
+placed true false = refl
+placed false true = refl
+placed false false = refl
 
 pub returns-in-Int-clause-settles : goal.returns-in-Int-clause-settles
 returns-in-Int-clause-settles c = settles_read _ _ _ _ _ _ _ _ c.in-Int.is (c.call_ints.ensures c.args.work.now.bytes.now)
@@ -41,7 +48,7 @@ pub returns-in-CompareBools-clause-settles : goal.returns-in-CompareBools-clause
 returns-in-CompareBools-clause-settles c =
     let w = c.args.work.now in
     settles_as (ap (λ f. called w.limits f (operand w.bytes.now c.args.a) (operand w.bytes.now c.args.b)) c.in-CompareBools.is)
-    (settles_compared (λ x. x) w.bytes.now w.fill by_bool c.in-CompareBools.c _ _ _ _ _ _ _ (plain _) (plain _) (c.as_bool.ensures (text_bytes w.bytes.now)) (c.as_bool-in-CompareBools.ensures (text_bytes w.bytes.now)) c.compare-in-CompareBools.ensures)
+    (settles_compared (λ x. x) w.bytes.now w.fill by_bool c.in-CompareBools.c _ _ _ _ _ _ _ (plain _) (plain _) (c.as_bool.ensures (text_bytes w.bytes.now)) (c.as_bool-in-CompareBools.ensures (text_bytes w.bytes.now)) (c.compare-in-CompareBools.ensures ∙ (λ i. compared (λ x y. placed x y i) c.in-CompareBools.c c.as_bool.result c.as_bool-in-CompareBools.result)))
 
 pub returns-in-CompareFloats-clause-settles : goal.returns-in-CompareFloats-clause-settles
 returns-in-CompareFloats-clause-settles c =
