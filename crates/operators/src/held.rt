@@ -7,8 +7,8 @@ ghost use Rattle.routines.specs.Works.{Kept};
 ghost use Rattle.operators.specs.Applied.{Held, picked};
 ghost use Rattle.operators.specs.Rooms.{room, in_room, assigned_in, Gives};
 
-use crate::form::Form;
 use crate::operate::operate;
+use crate::selectable::Selectable;
 use fault::Fault;
 use routines::{Made, Operand, Work};
 use rows::FnAssign;
@@ -46,7 +46,7 @@ fn pick(made: Made, a: Value<Span>, b: Value<Span>) -> Value<Span>
 }
 
 // The operator on two values of the run.
-pub fn apply_held<R: Form>(
+pub fn apply_held<R: Selectable>(
     op: Op,
     a: Value<Span>,
     b: Value<Span>,

@@ -2,12 +2,12 @@
 #![tactic(auto)]
 
 pub mod alone;
-pub mod form;
 pub mod held;
 pub mod operate;
+pub mod selectable;
 
 pub use alone::apply;
-pub use form::Form;
 pub use held::{apply_held, assign_held};
 pub use routines::{Call, Work};
 pub use rows::{FnAssign, FnBuiltin, Routine};
+pub use selectable::Selectable;

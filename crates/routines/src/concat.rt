@@ -1,7 +1,7 @@
 // One text of two operands, by the rule that says when its size is tested and when an operand is given back.
 ghost use Rattle.std.specs.Prelude.{◌≡◌};
 ghost use Rattle.text.specs.Pieces.{piece_bytes, Below};
-ghost use Rattle.routines.specs.Calls.{of, as_bytes, joined_by, choice, limit_for};
+ghost use Rattle.routines.specs.Calls.{of, as_bytes, joined_by, choice};
 ghost use Rattle.routines.specs.Outcomes.{operand, Ready, Settles};
 ghost use Rattle.routines.specs.Works.{Kept};
 
@@ -11,27 +11,18 @@ use crate::work::Work;
 use fault::Fault;
 use text::{Piece, piece_len};
 
-fn limit_for(kind: TextKind, limits: Limits) -> usize
-    ensures { result ≡ limit_for kind limits }
-{
-    match kind {
-        TextKind::Str => limits.string,
-        TextKind::Blob => limits.blob,
-    }
-}
-
 // What becomes of texts of m and n bytes.
 fn choose(rule: TextRule, limits: Limits, m: usize, n: usize) -> Result<Choice, Fault>
     ensures { result ≡ choice limits rule m n }
 {
     let (kind, limit) = match rule {
-        TextRule::Both(kind) => (kind, limit_for(kind, limits)),
-        TextRule::ExtendBlob if n == 0 && !is_allowed(limits.blob, m, 0) => return Err(
-            Fault::OverLimit,
-        ),
+        TextRule::Both(kind) => (kind, kind.limit(limits)),
+        TextRule::ExtendBlob if n == 0 && !is_allowed(limits.blob, m, 0) => {
+            return Err(Fault::OverLimit);
+        }
         _ if n == 0 => return Ok(Choice::Left),
         TextRule::JoinBlobs if m == 0 => return Ok(Choice::Right),
-        TextRule::Append(kind) => (kind, limit_for(kind, limits)),
+        TextRule::Append(kind) => (kind, kind.limit(limits)),
         TextRule::ExtendStr => (TextKind::Str, if m == 0 { 0 } else { limits.string }),
         TextRule::JoinBlobs | TextRule::ExtendBlob => (TextKind::Blob, limits.blob),
     };

@@ -6,7 +6,7 @@ ghost use Rattle.text.specs.Pieces.{text_bytes, piece_bytes, TextBelow, Below};
 ghost use Rattle.text.specs.Scalars.{utf8, by_scalars};
 ghost use Rattle.value.specs.Values.{meaning, text_in};
 ghost use Rattle.routines.specs.Calls.{as_bytes, as_blob, as_scalars, of, fresh, typed};
-ghost use Rattle.routines.specs.Outcomes.{operand, Ready, TextReady, Settles, valued, Pieced};
+ghost use Rattle.routines.specs.Outcomes.{operand, Ready, TextReady, Settles, Pieced};
 ghost use Rattle.routines.specs.Works.{Kept};
 
 use crate::made::{Made, Operand, TextKind};
@@ -14,9 +14,7 @@ use crate::work::Work;
 use fault::Fault;
 use order::{Comparing, Order};
 use std::str::from_utf8_unchecked;
-use text::{
-    Piece, Span, Text, compare_char_text, compare_text_char, compare_texts, join, text_bytes,
-};
+use text::{Piece, Text, compare_char_text, compare_text_char, compare_texts, join, text_bytes};
 use value::Value;
 
 // The text of a str, which is UTF-8.
@@ -73,15 +71,6 @@ pub(crate) fn as_pieces<'a>(a: Operand<'a>, b: Operand<'a>) -> Result<(Piece<'a>
     Ok((as_piece(a)?, as_piece(b)?))
 }
 
-fn text_value(kind: TextKind, span: Span) -> Value<Span>
-    ensures { result ≡ valued kind span }
-{
-    match kind {
-        TextKind::Str => Value::Str(span),
-        TextKind::Blob => Value::Blob(span),
-    }
-}
-
 // A new text of two pieces, behind the others in the work buffer.
 pub(crate) fn new_text(kind: TextKind, work: &mut Work, p: Piece, q: Piece) -> Result<Made, Fault>
     requires left { Below work.old.fill p }
@@ -91,5 +80,5 @@ pub(crate) fn new_text(kind: TextKind, work: &mut Work, p: Piece, q: Piece) -> R
 {
     let span = join(work.bytes, work.fill, p, q)?;
     work.fill += span.len;
-    Ok(Made::New(text_value(kind, span)))
+    Ok(Made::New(kind.value(span)))
 }

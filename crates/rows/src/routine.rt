@@ -1,4 +1,4 @@
-// The routines that rows name: an enum in the place of rhai's function pointers.
+// The routines that rows name: enums in the place of rhai's function pointers, which is a rule of this port.
 ghost use Rattle.std.specs.Prelude.{◌≡◌, Option};
 ghost use Rattle.value.specs.declared.kind.Kind.{Kind};
 ghost use Rattle.value.specs.declared.op.Op.{Op};

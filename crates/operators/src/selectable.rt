@@ -11,14 +11,14 @@ use routines::Call;
 use rows::{FnAssign, FnBuiltin};
 
 // A form of operators for which SELECT speaks.
-pub trait Form: Call {
+pub trait Selectable: Call {
     ghost speaks: { (l : Limits) (op : Op) (a b : Meaning) → Listed (selected_by Self.finds Self.gives op (kind_in a) (kind_in b)) a b (applied_by Self.finds Self.does l op a b) };
 }
 
-impl Form for FnBuiltin {
+impl Selectable for FnBuiltin {
     ghost speaks = { λ l op a b. (apply_as_selected l op a b).0 };
 }
 
-impl Form for FnAssign {
+impl Selectable for FnAssign {
     ghost speaks = { λ l op a b. (apply_as_selected l op a b).1 };
 }
