@@ -44,9 +44,6 @@ module _ (buffer : List ℕ) (a b : Meaning) (given : Result Given Fault) where
         bytes = ap (λ z. z ++ drop n buffer) (s.bytes ∙ ap (λ d. (settled d 0 given).bytes) t) ∙ ap (λ z. (settled (take 65536 buffer) 0 given).bytes ++ z) (drop_first buffer n 65536 e) ∙ ap (λ g. (alone buffer g).bytes) w;
       }
 
-pub refused_within : (f : Fault) (buffer : List ℕ) → NewWithin (Err f) buffer
-refused_within f buffer v q = absurd (let z : ◌≡◌ {A = ℕ} 0 1 = cc in omega arith)
-
 pub settled_within : (buffer : List ℕ) (given : Result Given Fault) (n : ℕ) (r : Result Made Fault) (after : List ℕ) (fill : ℕ) → Settles (take n buffer) 0 given r after fill → NewWithin r (after ++ drop n buffer)
 settled_within buffer given n r after fill s v q =
     inside_more (length after) (length (after ++ drop n buffer)) (text_in v) (omega (arith, length-append after (drop n buffer)))

@@ -1,4 +1,4 @@
--- SELECT speaks for APPLY.
+-- SELECT speaks for APPLY: the proof of `ApplyAsSelected`, which is a law of the trait `Selectable`. Assumes nothing.
 use Rattle.std.proofs.Common.{◌≡◌, ℕ, ◌≤◌, Bool, true, cond, ◌||◌, eqb, ltb, List, ◌++◌, length, ℤ, pos, negsuc, is_ok, Some, None, Ok, Err, IsUtf8, Option, Result, sym, refl, ap, ◌∙◌, subst, ⊎_elim, arith}
 use lib.Utf8.{encode}
 use Rattle.std.specs.Option.{option_map, ok_or}

@@ -1,4 +1,4 @@
--- Which kinds each routine is for, and that it reads operands of these kinds.
+-- Which kinds each routine is for, and that it reads operands of these kinds, for that proof. Assumes nothing.
 use Rattle.std.proofs.Common.{◌≡◌, Bool, true, ◌&&◌, ◌||◌, ℤ, is_ok, Some, None, Option, refl}
 use Rattle.value.specs.Kinds.{is_kind}
 use Rattle.value.specs.Values.{Meaning, unit, bool, int, float, char, str, blob, excl, incl, kind_in}

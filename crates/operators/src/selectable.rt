@@ -1,10 +1,5 @@
 // The two forms of operators, the binary and the assigning one.
-ghost use Rattle.value.specs.Values.{Meaning, kind_in};
-ghost use Rattle.value.specs.declared.op.Op.{Op};
-ghost use Rattle.rows.specs.Rows.{selected_by};
-ghost use Rattle.routines.specs.declared.made.Limits.{Limits};
-ghost use Rattle.operators.specs.Applied.{applied_by};
-ghost use Rattle.operators.specs.Listed.{Listed};
+ghost use Rattle.operators.specs.Listed.{SpeaksFor};
 ghost use Rattle.operators.specs.Selecting.{apply_as_selected};
 
 use routines::Call;
@@ -12,7 +7,7 @@ use rows::{FnAssign, FnBuiltin};
 
 // A form of operators for which SELECT speaks.
 pub trait Selectable: Call {
-    ghost speaks: { (l : Limits) (op : Op) (a b : Meaning) → Listed (selected_by Self.finds Self.gives op (kind_in a) (kind_in b)) a b (applied_by Self.finds Self.does l op a b) };
+    ghost speaks: { SpeaksFor Self.finds Self.gives Self.does };
 }
 
 impl Selectable for FnBuiltin {

@@ -4,11 +4,14 @@ use Rattle.value.specs.Values.{meaning, well_formed}
 use Rattle.routines.proofs.Laws.{settles_as}
 use Rattle.operators.specs.Applied.{applied_by}
 use Rattle.operators.proofs.Selecting.{apply_as_selected}
-use Rattle.operators.proofs.FirstBytes.{malformed, settled_alone, refused_within, settled_within}
+use Rattle.operators.proofs.FirstBytes.{malformed, settled_alone, settled_within}
 use Rattle.operators.proofs.alone.apply.Goals as goal
 
-pub returns-then-not-are_well_formed : goal.returns-then-not-are_well_formed
-returns-then-not-are_well_formed g c = record { listed = apply_as_selected; alone = malformed c.args.buffer.now (meaning (λ x. x.now) c.args.left) (meaning (λ x. x.now) c.args.right) _ c.if-not-are_well_formed.ensures; within = refused_within _ _ }
+pub returns-then-not-are_well_formed-clause-alone : goal.returns-then-not-are_well_formed-clause-alone
+returns-then-not-are_well_formed-clause-alone g c = malformed c.args.buffer.now (meaning (λ x. x.now) c.args.left) (meaning (λ x. x.now) c.args.right) _ c.if-not-are_well_formed.ensures
+
+pub returns-then-not-are_well_formed-clause-listed : goal.returns-then-not-are_well_formed-clause-listed
+returns-then-not-are_well_formed-clause-listed g c = apply_as_selected
 
 pub operate_in-requires-clause-left : goal.operate_in-requires-clause-left
 operate_in-requires-clause-left g c =
