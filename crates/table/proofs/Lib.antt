@@ -1,3 +1,4 @@
 mod Rowed
+mod Asked
 mod Written
 mod Blank
