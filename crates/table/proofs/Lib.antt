@@ -1,4 +1,5 @@
 mod Rowed
 mod Asked
+mod Lent
 mod Written
 mod Blank

@@ -1,14 +1,14 @@
 -- A value posted to a slot: its text goes to the front of the slot's part, its length into the record.
-use Rattle.std.proofs.Common.{◌≡◌, ℕ, ◌+◌, ◌*◌, ◌≤◌, true, List, [], length, take, drop, set, Some, None, Option, sym, refl, ap, ◌∙◌, arith, Bor, set-set}
+use Rattle.std.proofs.Common.{◌≡◌, ℕ, ◌+◌, ◌*◌, ◌≤◌, true, leb, List, [], length, take, drop, set, Some, None, Option, sym, refl, ap, ◌∙◌, arith, Bor, set-set}
 use Rattle.std.specs.Option.{option_map, unwrap_or}
 use Rattle.std.specs.List.{slice_get}
 use Rattle.std.proofs.lemmas.List.{take-take}
 use Rattle.text.specs.Buffers.{laid}
 use Rattle.text.proofs.Laws.{length_laid, take_laid, drop_laid, span_new}
 use Rattle.std.proofs.lemmas.Bool.{le-leb}
-use Rattle.value.specs.Values.{text_of, meaning, well_formed, size, text_in, with_text}
+use Rattle.value.specs.Values.{text_of, meaning, well_formed, size, text_in, Maps}
 use Rattle.value.specs.declared.value.Value.{Value}
-use Rattle.value.proofs.Laws.{meaning_with, text_with, text_meaning}
+use Rattle.value.proofs.Laws.{meaning_mapped, text_mapped, text_meaning}
 use Rattle.shelf.specs.Slots.{slot}
 use Rattle.shelf.specs.declared.mark.Mark.TheVariants.{Open}
 use Rattle.table.specs.declared.record.Record.{Record}
@@ -57,16 +57,22 @@ module _ (rs : List Record) (bs : List ℕ) (cap k : ℕ) (r : Record) (found : 
     pub copied : whole (set rs k blank) (laid bs (k * cap) t) cap ≡ true
     copied = whole_set rs bs (laid bs (k * cap) t) cap k blank (laid_within bs t (k * cap) cap inside l) refl refl s
 
-    module _ (v : Value (Bor (List ℕ))) (said : (x : Bor (List ℕ)) → text_in v ≡ Some x → t ≡ x.now) where
+    -- v is the value, with the length of its text w
+    module _ (R : Bor (List ℕ) → ℕ → Type 0) (counts : (x : Bor (List ℕ)) (n : ℕ) → R x n → n ≡ length x.now) (v : Value (Bor (List ℕ))) (w : Value ℕ) (m : Maps R v w) (said : (x : Bor (List ℕ)) → text_in v ≡ Some x → t ≡ x.now) where
       abbrev pub entry : Record
-      entry = record { value = with_text v (length t) }
+      entry = record { value = w }
 
-      means : meant_by (take cap (drop (k * cap) (laid bs (k * cap) t))) entry.value ≡ meaning (λ x. x.now) v
-      means = meaning_with (λ x. x.now) (λ n. take n (take cap (drop (k * cap) (laid bs (k * cap) t)))) v (length t) (λ x e. laid_there bs t (k * cap) cap inside l ∙ said x e)
+      count : (x : Bor (List ℕ)) (n : ℕ) → text_in v ≡ Some x → R x n → n ≡ length t
+      count x n e r = counts x n r ∙ ap length (sym (said x e))
 
-      fits : (o : Option (Bor (List ℕ))) → short cap (option_map (λ _. length t) o) ≡ true
-      fits None = refl
-      fits (Some x) = le-leb (length t) cap l
+      means : meant_by (take cap (drop (k * cap) (laid bs (k * cap) t))) w ≡ meaning (λ x. x.now) v
+      means =
+          let part = take cap (drop (k * cap) (laid bs (k * cap) t)) in
+          meaning_mapped R (λ x. x.now) (λ n. take n part) v w m (λ x n e r. ap (λ i. take i part) (count x n e r) ∙ laid_there bs t (k * cap) cap inside l ∙ said x e)
+
+      fits : (o : Option ℕ) → text_in w ≡ o → short cap o ≡ true
+      fits None e = refl
+      fits (Some n) e = let p = text_mapped R v w m n e in ap (λ i. leb i cap) (count p.0 n p.1 p.2) ∙ le-leb (length t) cap l
 
       pub entered : rows (set (set rs k blank) k entry) (laid bs (k * cap) t) cap ≡ set (rows rs bs cap) k (slot (meaning (λ x. x.now) v) cap Open)
       entered =
@@ -75,7 +81,6 @@ module _ (rs : List Record) (bs : List ℕ) (cap k : ℕ) (r : Record) (found : 
           ∙ ap (λ m. set (rows rs bs cap) k (slot m cap Open)) means
 
       pub stays : well_formed (meaning (λ x. x.now) v) ≡ true → whole (set (set rs k blank) k entry) (laid bs (k * cap) t) cap ≡ true
-      stays w =
+      stays f =
           ap (λ l. whole l (laid bs (k * cap) t) cap) (set-set rs k blank entry)
-          ∙ whole_set rs bs (laid bs (k * cap) t) cap k entry (laid_within bs t (k * cap) cap inside l)
-          (ap (short cap) (text_with v (length t)) ∙ fits (text_in v)) (ap well_formed means ∙ w) s
+          ∙ whole_set rs bs (laid bs (k * cap) t) cap k entry (laid_within bs t (k * cap) cap inside l) (fits (text_in w) refl) (ap well_formed means ∙ f) s

@@ -12,8 +12,8 @@ use crate::record::Record;
 use crate::table::Table;
 use fault::Fault;
 use shelf::{Mark, Shelf};
-use text::{Span, copy_in, part};
-use value::{Kind, Value, is_well_formed, store};
+use text::{Span, copy_in};
+use value::{Kind, Value, is_well_formed, lend, store};
 
 impl<'a> Table<'a> {
     // The record of a slot.
@@ -29,10 +29,7 @@ impl<'a> Table<'a> {
     {
         let value = self.record(slot)?.value;
         let start = slot as usize * self.capacity;
-        match value.text() {
-            Some(len) => Ok(value.with_text(part(self.texts, Span { start, len }))),
-            None => Ok(value.with_text(self.texts)),
-        }
+        Ok(lend(value.map(|len| Span { start, len }), self.texts))
     }
 }
 
@@ -75,7 +72,7 @@ impl<'a> Shelf for Table<'a> {
         // the slot is blank while its bytes change
         self.records[k].value = Value::Unit;
         copy_in(self.texts, k * self.capacity, text);
-        self.records[k].value = value.with_text(text.len());
+        self.records[k].value = value.map(|text| text.len());
         Ok(())
     }
 }

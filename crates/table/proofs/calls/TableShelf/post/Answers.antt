@@ -1,4 +1,4 @@
-use Rattle.std.proofs.Common.{◌<◌, ◌≤◌, Err, set, sym, refl, ap, ◌∙◌, arith, lt-length-set}
+use Rattle.std.proofs.Common.{◌<◌, ◌≤◌, Err, set, sym, refl, ap, ◌∙◌, arith, rules, lt-length-set}
 use Rattle.std.specs.List.{slice_get}
 use Rattle.std.proofs.lemmas.Option.{slice_get_within}
 use Rattle.std.proofs.lemmas.Result.{err_from_is_err_and}
@@ -78,8 +78,8 @@ invariant_of-self-3 c =
     let f = found Absent (slice_get t.records.now c.args.slot) c.in_ok-record.field-0.now c.in_ok-record.ensures in
     let s = said c.args.value _ _ x c.text.ensures c.unwrap_or-text.ensures in
     record {
-      whole = (λ j. whole (set (set t.records.now c.args.slot blank) c.args.slot (record { value = c.with_text.ensures j })) (c.copy_in.ensures j) t.capacity)
-          ∙ stays t.records.now t.texts.now t.capacity c.args.slot _ f t.whole x.now c.if-text-self.false c.args.value s (sym c.if-not-is_well_formed.ensures);
+      whole = ap (λ b. whole (set (set t.records.now c.args.slot blank) c.args.slot (record { value = c.map.result })) b t.capacity) c.copy_in.ensures
+          ∙ stays t.records.now t.texts.now t.capacity c.args.slot _ f t.whole x.now c.if-text-self.false _ (λ x n r. search rules) c.args.value c.map.result c.map.ensures s (sym c.if-not-is_well_formed.ensures);
     }
 
 pub returns : goal.returns
@@ -92,7 +92,7 @@ returns c =
     let e = posted_open (table_slots t) c.args.slot m t.capacity _ (sym c.if-not-is_well_formed.ensures) (found_row t.records.now t.texts.now t.capacity c.args.slot _ f) z in
     record {
       answer = sym (ap (λ (p : Posted). p.answer) e);
-      after = (λ j. rows (set (set t.records.now c.args.slot blank) c.args.slot (record { value = c.with_text.ensures j })) (c.copy_in.ensures j) t.capacity)
-          ∙ entered t.records.now t.texts.now t.capacity c.args.slot _ f t.whole x.now c.if-text-self.false c.args.value (said c.args.value _ _ x c.text.ensures c.unwrap_or-text.ensures)
+      after = ap (λ b. rows (set (set t.records.now c.args.slot blank) c.args.slot (record { value = c.map.result })) b t.capacity) c.copy_in.ensures
+          ∙ entered t.records.now t.texts.now t.capacity c.args.slot _ f t.whole x.now c.if-text-self.false _ (λ x n r. search rules) c.args.value c.map.result c.map.ensures (said c.args.value _ _ x c.text.ensures c.unwrap_or-text.ensures)
           ∙ sym (ap (λ (p : Posted). p.after) e);
     }

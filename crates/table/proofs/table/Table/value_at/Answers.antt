@@ -1,15 +1,13 @@
-use Rattle.std.proofs.Common.{◌≡◌, ◌*◌, take, drop, Ok, Err, sym, ap, ◌∙◌, arith}
-use Rattle.std.proofs.lemmas.List.{take-take}
+use Rattle.std.proofs.Common.{◌*◌, Ok, Err, refl, ap, ◌∙◌, rules, arith}
 use Rattle.std.proofs.lemmas.Result.{err_from_is_err_and}
-use Rattle.std.proofs.lemmas.Option.{none-some}
 use Rattle.std.specs.List.{slice_get}
 use Rattle.fault.specs.Refusals.{bind}
 use Rattle.fault.specs.declared.Fault.TheVariants.{Absent}
-use Rattle.value.specs.Values.{meaning}
-use Rattle.value.proofs.Laws.{meaning_with}
+use Rattle.value.specs.Values.{meaning, text_in}
 use Rattle.shelf.specs.Slots.{Slot}
 use Rattle.table.proofs.Asked.{found, asked_rows}
-use Rattle.table.proofs.Rowed.{whole_at, text_short}
+use Rattle.table.proofs.Rowed.{whole_at}
+use Rattle.table.proofs.Lent.{inside, means}
 use Rattle.table.proofs.table.Table.value_at.Goals as goal
 
 pub returns-in_err-value : goal.returns-in_err-value
@@ -26,34 +24,19 @@ overflow_mul-start c =
     let f = found Absent (slice_get t.records.now c.args.slot) r c.in_ok-value.ensures in
     omega (arith, (whole_at t.records.now t.texts.now t.capacity c.args.slot r f t.whole).within)
 
-pub part-requires : goal.part-requires
-part-requires c =
+pub lend-requires : goal.lend-requires
+lend-requires c =
     let t = c.args.self.now in
     let r = c.in_ok-value.field-0.now in
     let f = found Absent (slice_get t.records.now c.args.slot) r c.in_ok-value.ensures in
     let a = whole_at t.records.now t.texts.now t.capacity c.args.slot r f t.whole in
-    omega (arith, a.within, text_short r t.texts.now t.capacity (c.args.slot * t.capacity) c.in-Some.len a (sym c.in-Some.ensures))
+    inside r t.texts.now t.capacity (c.args.slot * t.capacity) a _ (λ n s p. search rules) c.map.result c.map.ensures (text_in c.map.result) refl
 
-pub returns-in-Some : goal.returns-in-Some
-returns-in-Some c =
+pub returns : goal.returns
+returns c =
     let t = c.args.self.now in
     let r = c.in_ok-value.field-0.now in
-    let bs = drop (c.args.slot * t.capacity) t.texts.now in
     let f = found Absent (slice_get t.records.now c.args.slot) r c.in_ok-value.ensures in
     let a = whole_at t.records.now t.texts.now t.capacity c.args.slot r f t.whole in
-    let n = c.in-Some.len in
-    let l = text_short r t.texts.now t.capacity (c.args.slot * t.capacity) n a (sym c.in-Some.ensures) in
-    ap Ok (ap (meaning (λ x. x.now)) c.with_text.ensures
-    ∙ meaning_with (λ m. take m (take t.capacity bs)) (λ x. x.now) r.value c.part.result (λ m e.
-    let same : n ≡ m = let q = c.in-Some.ensures ∙ e in cc in
-    c.part.ensures ∙ sym (take-take n t.capacity bs l) ∙ ap (λ k. take k (take t.capacity bs)) same))
-    ∙ asked_rows t.records.now t.texts.now t.capacity c.args.slot (λ (s : Slot). s.holds) (Ok c.in_ok-value.field-0) c.in_ok-value.ensures
-
-pub returns-in-None : goal.returns-in-None
-returns-in-None c =
-    let t = c.args.self.now in
-    let r = c.in_ok-value.field-0.now in
-    let bs = drop (c.args.slot * t.capacity) t.texts.now in
-    ap Ok (ap (meaning (λ x. x.now)) c.with_text-in-None.ensures
-    ∙ meaning_with (λ m. take m (take t.capacity bs)) (λ x. x.now) r.value (record { ref_ptr = t.texts.ref_ptr; now = t.texts.now }) (λ m e. absurd (none-some m (c.in-None.ensures ∙ e))))
+    ap Ok (c.lend.ensures ∙ means r t.texts.now t.capacity (c.args.slot * t.capacity) a _ (λ n s p. search rules) c.map.result c.map.ensures)
     ∙ asked_rows t.records.now t.texts.now t.capacity c.args.slot (λ (s : Slot). s.holds) (Ok c.in_ok-value.field-0) c.in_ok-value.ensures
