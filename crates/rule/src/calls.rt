@@ -53,7 +53,6 @@ impl Rule {
 
     // The kinds that the answer can have.
     pub fn check<S: Shelf>(&mut self, shelf: &S) -> Result<KindSet, Refusal>
-        requires { S.sound shelf.now }
         ensures answer { result ≡ checks (holding (S.slots shelf.now)) (rule_of self.old) }
         ensures after { rule_of self.new ≡ passed (holding (S.slots shelf.now)) (rule_of self.old) }
     {
@@ -70,10 +69,8 @@ impl Rule {
         limits: Limits,
         work: &mut [u8],
     ) -> Result<Value<Span>, Refusal>
-        requires { S.sound shelf.old }
         ensures ends { Ends (ran limits (holding (S.slots shelf.old)) (rule_of self.now).steps (rule_of self.now).kept work.old) result work.new }
         ensures same { S.slots shelf.new ≡ S.slots shelf.old }
-        ensures stays { S.sound shelf.new }
     {
         match &self.state {
             State::Open => Err(Fault::NotPassed.into()),

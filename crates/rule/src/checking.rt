@@ -14,7 +14,6 @@ use steps::{Frame, Step};
 use value::{Kind, KindSet};
 
 fn advance<S: Shelf>(step: Step, frame: &mut Frame<KindSet>, shelf: &S) -> Result<(), Fault>
-    requires sound { S.sound shelf.now }
     requires taken { takes step ≡ Ok tt }
     ensures { stepped (sets (holding (S.slots shelf.now))) step (held frame.old) tt ≡ beside tt (done result (held frame.new)) }
 {
@@ -51,7 +50,6 @@ fn advance<S: Shelf>(step: Step, frame: &mut Frame<KindSet>, shelf: &S) -> Resul
 
 // CHECK's answer: the set of kinds that the last value can have.
 pub(crate) fn check_steps<S: Shelf>(steps: &[Step], shelf: &S) -> Result<KindSet, Refusal>
-    requires sound { S.sound shelf.now }
     requires taken { all_taken steps.now ≡ true }
     ensures { result ≡ checked (holding (S.slots shelf.now)) steps.now }
 {
@@ -64,7 +62,6 @@ pub(crate) fn check_steps<S: Shelf>(steps: &[Step], shelf: &S) -> Result<KindSet
 
 // The kind now of the slot that a step loads.
 fn kind_at<S: Shelf>(step: Step, shelf: &S) -> Option<Kind>
-    requires { S.sound shelf.now }
     ensures { result ≡ kind_at (holding (S.slots shelf.now)) step }
 {
     match step {
@@ -74,7 +71,6 @@ fn kind_at<S: Shelf>(step: Step, shelf: &S) -> Option<Kind>
 }
 
 pub(crate) fn kinds_at<S: Shelf>(steps: &[Step], shelf: &S) -> [Option<Kind>; 128]
-    requires sound { S.sound shelf.now }
     requires few { length steps.now ≤ 128 }
     ensures { take (length steps.now) result ≡ kinds_at (holding (S.slots shelf.now)) steps.now }
 {
@@ -97,7 +93,6 @@ fn same_kind(a: Option<Kind>, b: Option<Kind>) -> bool
 
 // Whether every load finds the kind that was kept of it.
 pub(crate) fn is_fresh<S: Shelf>(steps: &[Step], kinds: &[Option<Kind>], shelf: &S) -> bool
-    requires sound { S.sound shelf.now }
     requires all { length kinds.now ≡ length steps.now }
     ensures { result ≡ fresh (holding (S.slots shelf.now)) steps.now kinds.now }
 {

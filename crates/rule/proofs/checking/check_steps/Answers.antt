@@ -12,7 +12,6 @@ use Rattle.rule.proofs.checking.check_steps.Goals as goal
 
 pub advance-requires : goal.advance-requires
 advance-requires g c = record {
-  sound = c.requires.sound;
   taken = taken_at c.args.steps.now c.loop-i.i _ c.requires.taken c.loop-i-test.true;
 }
 
