@@ -4,7 +4,7 @@ ghost use Rattle.value.specs.Kinds.{single, has, united};
 
 use crate::kind::Kind;
 
-#[derive(Clone, Copy, PartialEq, Eq, Debug)]
+#[derive(Clone, Copy, PartialEq, Eq, Debug, Default)]
 pub struct KindSet {
     pub bits: u16,
 }

@@ -11,8 +11,9 @@ pub struct Range {
     pub to: i64,
 }
 
-#[derive(Clone, Copy)]
+#[derive(Clone, Copy, Default)]
 pub enum Value<T> {
+    #[default]
     Unit,
     Bool(bool),
     Int(i64),
