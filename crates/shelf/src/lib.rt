@@ -17,40 +17,29 @@ pub trait Shelf {
     // what the shelf means: its slots in their order
     ghost slots: { Self → List Slot };
 
-    // what a make knows from its making, and every call keeps; each constructor ensures it
-    ghost sound: { Self → Type 0 } = { λ _. Unit {0} };
-
-    // a proof that a sound shelf's values are well formed
-    ghost formed: { (x : Self) → sound x → all_formed (slots x) ≡ true };
+    // a proof that the values are well formed
+    ghost formed: { (x : Self) → all_formed (slots x) ≡ true };
 
     fn count(&self) -> usize
-        requires { sound self.now }
         ensures { result ≡ length (slots self.now) };
 
     fn kind(&self, slot: u32) -> Result<Kind, Fault>
-        requires { sound self.now }
         ensures { result ≡ asked_kind (slots self.now) slot };
 
     fn capacity(&self, slot: u32) -> Result<usize, Fault>
-        requires { sound self.now }
         ensures { result ≡ asked_capacity (slots self.now) slot };
 
     fn mark(&self, slot: u32) -> Result<Mark, Fault>
-        requires { sound self.now }
         ensures { result ≡ asked_mark (slots self.now) slot };
 
     // Copies the slot's text into the buffer at the place, and gives the value.
     fn tell(&mut self, slot: u32, buffer: &mut [u8], place: usize) -> Result<Value<Span>, Fault>
-        requires { sound self.old }
         ensures answer { result ≡ (told (slots self.old) slot buffer.old place).answer }
         ensures bytes { buffer.new ≡ (told (slots self.old) slot buffer.old place).bytes }
-        ensures same { slots self.new ≡ slots self.old }
-        ensures stays { sound self.new };
+        ensures same { slots self.new ≡ slots self.old };
 
     // Replaces the slot's value.
     fn post(&mut self, slot: u32, value: Value<&[u8]>) -> Result<(), Fault>
-        requires { sound self.old }
         ensures answer { result ≡ (posted (slots self.old) slot (meaning (λ x. x.now) value.entry)).answer }
-        ensures after { slots self.new ≡ (posted (slots self.old) slot (meaning (λ x. x.now) value.entry)).after }
-        ensures stays { sound self.new };
+        ensures after { slots self.new ≡ (posted (slots self.old) slot (meaning (λ x. x.now) value.entry)).after };
 }
