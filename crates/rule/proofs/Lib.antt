@@ -3,6 +3,5 @@ mod Fresh
 mod Outcomes
 mod Loads
 mod Framed
-mod Adding
 mod Advancing
 mod Walking

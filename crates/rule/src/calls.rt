@@ -4,6 +4,7 @@ ghost use Rattle.shelf.specs.Slots.{holding};
 ghost use Rattle.rule.specs.Run.{Ends};
 ghost use Rattle.rule.specs.Rules.{blank, rule_of, adds, added, checks, passed, ran};
 
+use arrayvec::ArrayVec;
 use crate::checking::{check_steps, is_fresh, kinds_at};
 use crate::rule::{Rule, State};
 use crate::running::run_steps;
@@ -20,8 +21,7 @@ impl Rule {
         ensures { rule_of result ≡ blank }
     {
         Rule {
-            steps: [Step::Put(Value::Unit); 128],
-            count: 0,
+            steps: ArrayVec::new(),
             state: State::Open,
         }
     }
@@ -29,7 +29,7 @@ impl Rule {
     pub fn clear(&mut self)
         ensures { rule_of self.new ≡ blank }
     {
-        self.count = 0;
+        self.steps.clear();
         self.state = State::Open;
     }
 
@@ -40,24 +40,16 @@ impl Rule {
         step.test()?;
         match self.state {
             State::Passed { .. } => Err(Fault::RulePassed),
-            State::Open => {
-                if self.count >= 128 {
-                    return Err(Fault::RuleFull);
-                }
-                self.steps[self.count] = step;
-                self.count += 1;
-                Ok(())
-            }
+            State::Open => self.steps.try_push(step).map_err(|_| Fault::RuleFull),
         }
     }
 
     // The kinds that the answer can have.
     pub fn check<S: Shelf>(&mut self, shelf: &S) -> Result<KindSet, Refusal>
-        requires { S.sound shelf.now }
         ensures answer { result ≡ checks (holding (S.slots shelf.now)) (rule_of self.old) }
         ensures after { rule_of self.new ≡ passed (holding (S.slots shelf.now)) (rule_of self.old) }
     {
-        let steps = &self.steps[0..self.count];
+        let steps = self.steps.as_slice();
         let answer = check_steps(steps, shelf)?;
         let kinds = kinds_at(steps, shelf);
         self.state = State::Passed { kinds, answer };
@@ -70,16 +62,14 @@ impl Rule {
         limits: Limits,
         work: &mut [u8],
     ) -> Result<Value<Span>, Refusal>
-        requires { S.sound shelf.old }
         ensures ends { Ends (ran limits (holding (S.slots shelf.old)) (rule_of self.now).steps (rule_of self.now).kept work.old) result work.new }
         ensures same { S.slots shelf.new ≡ S.slots shelf.old }
-        ensures stays { S.sound shelf.new }
     {
         match &self.state {
             State::Open => Err(Fault::NotPassed.into()),
             State::Passed { kinds, .. } => {
-                let steps = &self.steps[0..self.count];
-                if !is_fresh(steps, &kinds[0..self.count], shelf) {
+                let steps = self.steps.as_slice();
+                if !is_fresh(steps, kinds.as_slice(), shelf) {
                     return Err(Fault::Outdated.into());
                 }
                 run_steps(steps, shelf, limits, work)

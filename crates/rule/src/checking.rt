@@ -7,6 +7,7 @@ ghost use Rattle.steps.specs.Walk.{step as stepped};
 ghost use Rattle.steps.specs.Frames.{held, done};
 ghost use Rattle.rule.specs.Check.{sets, checked, kind_at, kinds_at, same_kind, fresh};
 
+use arrayvec::ArrayVec;
 use crate::sets::{Form, select_sets};
 use fault::{Fault, Refusal, placed};
 use shelf::Shelf;
@@ -14,8 +15,7 @@ use steps::{Frame, Step};
 use value::{Kind, KindSet};
 
 fn advance<S: Shelf>(step: Step, frame: &mut Frame<KindSet>, shelf: &S) -> Result<(), Fault>
-    requires sound { S.sound shelf.now }
-    requires taken { takes step ≡ Ok tt }
+    requires { takes step ≡ Ok tt }
     ensures { stepped (sets (holding (S.slots shelf.now))) step (held frame.old) tt ≡ beside tt (done result (held frame.new)) }
 {
     match step {
@@ -51,20 +51,18 @@ fn advance<S: Shelf>(step: Step, frame: &mut Frame<KindSet>, shelf: &S) -> Resul
 
 // CHECK's answer: the set of kinds that the last value can have.
 pub(crate) fn check_steps<S: Shelf>(steps: &[Step], shelf: &S) -> Result<KindSet, Refusal>
-    requires sound { S.sound shelf.now }
-    requires taken { all_taken steps.now ≡ true }
+    requires { all_taken steps.now ≡ true }
     ensures { result ≡ checked (holding (S.slots shelf.now)) steps.now }
 {
     let mut frame = Frame::new(KindSet::single(Kind::Unit));
-    for i in 0..steps.len() {
-        placed(advance(steps[i], &mut frame, shelf), i)?;
+    for (i, step) in steps.iter().enumerate() {
+        placed(advance(*step, &mut frame, shelf), i)?;
     }
     frame.only(steps.len())
 }
 
 // The kind now of the slot that a step loads.
 fn kind_at<S: Shelf>(step: Step, shelf: &S) -> Option<Kind>
-    requires { S.sound shelf.now }
     ensures { result ≡ kind_at (holding (S.slots shelf.now)) step }
 {
     match step {
@@ -73,38 +71,24 @@ fn kind_at<S: Shelf>(step: Step, shelf: &S) -> Option<Kind>
     }
 }
 
-pub(crate) fn kinds_at<S: Shelf>(steps: &[Step], shelf: &S) -> [Option<Kind>; 128]
-    requires sound { S.sound shelf.now }
-    requires few { length steps.now ≤ 128 }
-    ensures { take (length steps.now) result ≡ kinds_at (holding (S.slots shelf.now)) steps.now }
+pub(crate) fn kinds_at<S: Shelf>(steps: &[Step], shelf: &S) -> ArrayVec<Option<Kind>, 128>
+    requires { length steps.now ≤ 128 }
+    ensures { result.items ≡ kinds_at (holding (S.slots shelf.now)) steps.now }
 {
-    let mut kinds = [None; 128];
-    for i in 0..steps.len() {
-        kinds[i] = kind_at(steps[i], shelf);
+    let mut kinds = ArrayVec::new();
+    for step in steps {
+        kinds.push(kind_at(*step, shelf));
     }
     kinds
 }
 
-fn same_kind(a: Option<Kind>, b: Option<Kind>) -> bool
-    ensures { result ≡ same_kind a b }
-{
-    match (a, b) {
-        (Some(j), Some(k)) => j.number() == k.number(),
-        (None, None) => true,
-        _ => false,
-    }
-}
-
 // Whether every load finds the kind that was kept of it.
 pub(crate) fn is_fresh<S: Shelf>(steps: &[Step], kinds: &[Option<Kind>], shelf: &S) -> bool
-    requires sound { S.sound shelf.now }
-    requires all { length kinds.now ≡ length steps.now }
+    requires { length kinds.now ≡ length steps.now }
     ensures { result ≡ fresh (holding (S.slots shelf.now)) steps.now kinds.now }
 {
-    for i in 0..steps.len() {
-        if !same_kind(kind_at(steps[i], shelf), kinds[i]) {
-            return false;
-        }
-    }
-    true
+    steps
+        .iter()
+        .zip(kinds)
+        .all(|(step, kind)| kind_at(*step, shelf) == *kind)
 }

@@ -39,12 +39,10 @@ fn load<S: Shelf>(
     work: &mut [u8],
     fill: &mut usize,
 ) -> Result<Value<Span>, Fault>
-    requires sound { S.sound shelf.old }
     requires inside { fill.old ≤ length work.old }
     requires short { length work.old ≤ 65536 }
     ensures gives { Gives work.old fill.old (loaded (holding (S.slots shelf.old) slot) (room fill.old work.old)) result work.new fill.new }
     ensures same { S.slots shelf.new ≡ S.slots shelf.old }
-    ensures stays { S.sound shelf.new }
 {
     let value = shelf.tell(slot, work, *fill)?;
     if let Some(span) = value.text() {
@@ -61,14 +59,12 @@ fn advance<S: Shelf>(
     work: &mut [u8],
     fill: &mut usize,
 ) -> Result<(), Fault>
-    requires sound { S.sound shelf.old }
     requires taken { takes step ≡ Ok tt }
     requires held { AllHeld work.old fill.old (held frame.old) }
     requires inside { fill.old ≤ length work.old }
     requires short { length work.old ≤ 65536 }
     ensures advances { Advances limits (holding (S.slots shelf.old)) step work.old fill.old (held frame.old) result work.new fill.new (held frame.new) }
     ensures same { S.slots shelf.new ≡ S.slots shelf.old }
-    ensures stays { S.sound shelf.new }
 {
     match step {
         Step::Put(value) => frame.push(literal(value)),
@@ -112,18 +108,16 @@ fn walk_steps<S: Shelf>(
     limits: Limits,
     work: &mut [u8],
 ) -> Result<Value<Span>, Refusal>
-    requires sound { S.sound shelf.old }
     requires taken { all_taken steps.now ≡ true }
     requires short { length work.old ≤ 65536 }
     ensures walks { Walks limits (holding (S.slots shelf.old)) steps.now work.old result work.new }
     ensures same { S.slots shelf.new ≡ S.slots shelf.old }
-    ensures stays { S.sound shelf.new }
 {
     let mut frame = Frame::new(Value::Unit);
     let mut fill = 0;
-    for i in 0..steps.len() {
+    for (i, step) in steps.iter().enumerate() {
         placed(
-            advance(steps[i], &mut frame, shelf, limits, work, &mut fill),
+            advance(*step, &mut frame, shelf, limits, work, &mut fill),
             i,
         )?;
     }
@@ -137,11 +131,9 @@ pub(crate) fn run_steps<S: Shelf>(
     limits: Limits,
     work: &mut [u8],
 ) -> Result<Value<Span>, Refusal>
-    requires sound { S.sound shelf.old }
     requires taken { all_taken steps.now ≡ true }
     ensures ends { Ends (walked limits (holding (S.slots shelf.old)) steps.now work.old) result work.new }
     ensures same { S.slots shelf.new ≡ S.slots shelf.old }
-    ensures stays { S.sound shelf.new }
 {
     let room = work.len().min(MOST);
     walk_steps(steps, shelf, limits, &mut work[0..room])

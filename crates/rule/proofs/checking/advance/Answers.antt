@@ -15,7 +15,7 @@ pub returns-in-Local : goal.returns-in-Local
 returns-in-Local g c =
     let f = c.args.frame.now in
     let m = sets (holding (g.S.Shelf.slots c.args.shelf.now)) in
-    let taken = sym (ap takes c.in-Local.is) ∙ c.requires.taken in
+    let taken = sym (ap takes c.in-Local.is) ∙ c.requires in
     ap (λ x. step m x (held f) tt) c.in-Local.is
     ∙ load_step m (held f) tt c.in-Local.local _ (local_read m (held f) tt c.in-Local.local _ f.eight taken)
     ∙ ap (beside tt) c.push-in-Local.ensures
@@ -26,7 +26,7 @@ returns-in_err-kinds-in-Assign g c =
     let f₁ = held c.pop-in-Assign.new.self in
     let m = sets (holding (g.S.Shelf.slots c.args.shelf.now)) in
     let i = c.in-Assign.local in
-    let taken = sym (ap takes c.in-Assign.is) ∙ c.requires.taken in
+    let taken = sym (ap takes c.in-Assign.is) ∙ c.requires in
     let p = err_from_is_err_and c.from_residual-in_err-kinds-in-Assign.result c.from_residual-in_err-kinds-in-Assign.ensures.1 in
     let off = c.pop-in-Assign.ensures ∙ ap (λ r. leaving r f₁) c.in_ok-right-in-Assign.was in
     let rows = sym c.select_sets-in-Assign.ensures ∙ c.in_err-kinds-in-Assign.was in

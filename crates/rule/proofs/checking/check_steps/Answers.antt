@@ -11,10 +11,7 @@ use Rattle.rule.proofs.Outcomes.{bare_beside}
 use Rattle.rule.proofs.checking.check_steps.Goals as goal
 
 pub advance-requires : goal.advance-requires
-advance-requires g c = record {
-  sound = c.requires.sound;
-  taken = taken_at c.args.steps.now c.loop-i.i _ c.requires.taken c.loop-i-test.true;
-}
+advance-requires g c = taken_at c.args.steps.now c.loop-i.i _ c.requires c.loop-i-test.true
 
 pub loop-i-preserved : goal.loop-i-preserved
 loop-i-preserved g c =

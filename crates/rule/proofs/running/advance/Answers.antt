@@ -23,7 +23,6 @@ returns-in-Put g c =
     record {
       advances = subst (λ x. Advances c.args.limits env x w n e c.push.result w n (held c.push.new.self)) (sym c.in-Put.is) put;
       same = λ _. g.S.Shelf.slots c.args.shelf.now;
-      stays = c.requires.sound;
     }
 
 pub returns-in_ok-value-in-Slot : goal.returns-in_ok-value-in-Slot
@@ -36,7 +35,6 @@ returns-in_ok-value-in-Slot g c =
     record {
       advances = comes_in c.args.limits env w n c.requires.inside e c.requires.held _ _ e c.requires.held o c.args.step (ap (λ x. step (values c.args.limits env) x (meanings w e) (room n w)) c.in-Slot.is) c.in_ok-value-in-Slot.value c.in_ok-value-in-Slot.ensures.gives _ _ c.push-in-Slot.ensures;
       same = c.load.ensures.same;
-      stays = c.load.ensures.stays;
     }
 
 pub returns-in-Local : goal.returns-in-Local
@@ -51,7 +49,6 @@ returns-in-Local g c =
     record {
       advances = subst (λ x. Advances c.args.limits env x w n (held f) c.push-in-Local.result w n (held c.push-in-Local.new.self)) (sym c.in-Local.is) loc;
       same = λ _. g.S.Shelf.slots c.args.shelf.now;
-      stays = c.requires.sound;
     }
 
 pub returns-in_ok-value-in-Keep : goal.returns-in_ok-value-in-Keep
@@ -67,7 +64,6 @@ returns-in_ok-value-in-Keep g c =
     record {
       advances = subst (λ x. Advances c.args.limits env x w n e (Ok tt) w n (kept i v e₁)) (sym c.in-Keep.is) (keep_advances c.args.limits env w n c.requires.inside e c.requires.held i v e₁ off);
       same = λ _. g.S.Shelf.slots c.args.shelf.now;
-      stays = c.requires.sound;
     }
 
 pub returns-in_ok-value-in-Apply : goal.returns-in_ok-value-in-Apply
@@ -88,7 +84,6 @@ returns-in_ok-value-in-Apply g c =
     record {
       advances = comes_in c.args.limits env w n c.requires.inside e c.requires.held _ _ e₂ rest o c.args.step (ap (λ x. step m x (meanings w e) (room n w)) c.in-Apply.is ∙ apply_step m (meanings w e) (room n w) c.in-Apply.op (meant w a) (meant w b) (meanings w e₁) (meanings w e₂) (pop_means w n e b e₁ q) (pop_means w n e₁ a e₂ p)) c.in_ok-value-in-Apply.value c.in_ok-value-in-Apply.ensures _ _ c.push-in-Apply.ensures;
       same = λ _. g.S.Shelf.slots c.args.shelf.now;
-      stays = c.requires.sound;
     }
 
 pub returns-in_err-value-in-Apply : goal.returns-in_err-value-in-Apply
@@ -110,7 +105,6 @@ returns-in_err-value-in-Apply g c =
     record {
       advances = refused c.args.limits env w n c.requires.inside e c.requires.held _ _ e₂ rest o c.args.step _ (ap (λ x. step m x (meanings w e) (room n w)) c.in-Apply.is ∙ apply_step m (meanings w e) (room n w) c.in-Apply.op (meant w a) (meant w b) (meanings w e₁) (meanings w e₂) (pop_means w n e b e₁ q) (pop_means w n e₁ a e₂ p)) _ _ _ c.in_err-value-in-Apply.ensures (x.1 ∙ ap Err x.2);
       same = λ _. g.S.Shelf.slots c.args.shelf.now;
-      stays = c.requires.sound;
     }
 
 pub assign_held-requires : goal.assign_held-requires
@@ -149,5 +143,4 @@ returns-in_ok-right-in-Assign g c =
     record {
       advances = assign_advances c.args.limits env w n c.requires.inside (held f) c.requires.held _ _ (held f₁) off.rest o c.args.step i _ c.assign_held.result (ap (λ x. step m x (meanings w (held f)) (room n w)) c.in-Assign.is ∙ assign_step m (meanings w (held f)) (room n w) c.in-Assign.op i (meant w a) (meant w b) (meanings w (held f₁)) (pop_means w n (held f) b (held f₁) q) here) c.assign_held.ensures;
       same = λ _. g.S.Shelf.slots c.args.shelf.now;
-      stays = c.requires.sound;
     }

@@ -9,18 +9,16 @@ pub returns-in-Some : goal.returns-in-Some
 returns-in-Some g c =
     let s = c.args.shelf.now in
     record {
-      gives = load_gives (g.S.Shelf.slots s) (g.S.Shelf.formed s c.requires.sound) c.args.slot c.args.work.now c.args.fill.now c.requires.inside c.requires.short _ _ _ (sym c.tell.ensures.answer ∙ c.in_ok-value.was) c.tell.ensures.bytes (ap (behind c.args.fill.now) (sym (sym c.text.ensures ∙ c.in-Some.is)));
+      gives = load_gives (g.S.Shelf.slots s) (g.S.Shelf.formed s) c.args.slot c.args.work.now c.args.fill.now c.requires.inside c.requires.short _ _ _ (sym c.tell.ensures.answer ∙ c.in_ok-value.was) c.tell.ensures.bytes (ap (behind c.args.fill.now) (sym (sym c.text.ensures ∙ c.in-Some.is)));
       same = c.tell.ensures.same;
-      stays = c.tell.ensures.stays;
     }
 
 pub returns-in_default : goal.returns-in_default
 returns-in_default g c =
     let s = c.args.shelf.now in
     record {
-      gives = load_gives (g.S.Shelf.slots s) (g.S.Shelf.formed s c.requires.sound) c.args.slot c.args.work.now c.args.fill.now c.requires.inside c.requires.short _ _ _ (sym c.tell.ensures.answer ∙ c.in_ok-value.was) c.tell.ensures.bytes (ap (behind c.args.fill.now) (sym (sym c.text.ensures ∙ c.in_default.is)));
+      gives = load_gives (g.S.Shelf.slots s) (g.S.Shelf.formed s) c.args.slot c.args.work.now c.args.fill.now c.requires.inside c.requires.short _ _ _ (sym c.tell.ensures.answer ∙ c.in_ok-value.was) c.tell.ensures.bytes (ap (behind c.args.fill.now) (sym (sym c.text.ensures ∙ c.in_default.is)));
       same = c.tell.ensures.same;
-      stays = c.tell.ensures.stays;
     }
 
 pub returns-in_err-value : goal.returns-in_err-value
@@ -29,7 +27,6 @@ returns-in_err-value g c =
     let p = err_from_is_err_and c.from_residual.result c.from_residual.ensures.1 in
     let is = p.1 ∙ ap Err p.2 in
     record {
-      gives = load_gives (g.S.Shelf.slots s) (g.S.Shelf.formed s c.requires.sound) c.args.slot c.args.work.now c.args.fill.now c.requires.inside c.requires.short _ _ _ (sym c.tell.ensures.answer ∙ c.in_err-value.was ∙ sym is) c.tell.ensures.bytes (ap (next c.args.fill.now) (sym is));
+      gives = load_gives (g.S.Shelf.slots s) (g.S.Shelf.formed s) c.args.slot c.args.work.now c.args.fill.now c.requires.inside c.requires.short _ _ _ (sym c.tell.ensures.answer ∙ c.in_err-value.was ∙ sym is) c.tell.ensures.bytes (ap (next c.args.fill.now) (sym is));
       same = c.tell.ensures.same;
-      stays = c.tell.ensures.stays;
     }

@@ -8,5 +8,4 @@ pub returns : goal.returns
 returns g c = record {
   ends = walks_end c.args.limits (holding (g.S.Shelf.slots c.args.shelf.now)) c.args.steps.now c.args.work.now (c.min-room.result - 0) c.walk_steps.result _ (sub-zero c.min-room.result ∙ c.min-room.ensures) c.walk_steps.ensures.walks;
   same = c.walk_steps.ensures.same;
-  stays = c.walk_steps.ensures.stays;
 }

@@ -10,13 +10,12 @@ use Rattle.rule.proofs.Walking.{far_none, far_more, walk_stops, walk_done}
 use Rattle.rule.proofs.running.walk_steps.Goals as goal
 
 pub loop-i-init : goal.loop-i-init
-loop-i-init g c = (far_none c.args.limits (holding (g.S.Shelf.slots c.args.shelf.now)) c.args.steps.now c.args.work.now _ c.new-frame.ensures, λ _. g.S.Shelf.slots c.args.shelf.now, c.requires.sound)
+loop-i-init g c = (far_none c.args.limits (holding (g.S.Shelf.slots c.args.shelf.now)) c.args.steps.now c.args.work.now _ c.new-frame.ensures, λ _. g.S.Shelf.slots c.args.shelf.now)
 
 pub advance-requires : goal.advance-requires
 advance-requires g c =
     let far = c.loop-i.invariant.0 in
     record {
-      sound = c.loop-i.invariant.2;
       taken = taken_at c.args.steps.now c.loop-i.i _ c.requires.taken c.loop-i-test.true;
       held = far.held;
       inside = far.inside;
@@ -30,7 +29,6 @@ loop-i-preserved g c =
     let did = subst (λ s. Advances c.args.limits (holding s) (get_or c.args.steps.now c.loop-i.i (Put value.Unit)) c.loop-i.work c.loop-i.fill (held c.loop-i.frame) c.advance.result c.advance.new.work c.advance.new.fill (held c.advance.new.frame)) c.loop-i.invariant.1 c.advance.ensures.advances in (
       far_more c.args.limits env c.args.steps.now c.args.work.now c.loop-i.i (Put value.Unit) _ _ _ _ _ _ c.advance.result c.loop-i-test.true c.loop-i.invariant.0 did (sym c.placed.ensures ∙ c.in_ok-placed.was),
       c.advance.ensures.same ∙ c.loop-i.invariant.1,
-      c.advance.ensures.stays,
     )
 
 pub returns-in_err-placed : goal.returns-in_err-placed
@@ -43,7 +41,6 @@ returns-in_err-placed g c =
       walks = subst (λ r. Walks c.args.limits env c.args.steps.now c.args.work.now r c.advance.new.work) (sym (p.1 ∙ ap Err p.2))
           (walk_stops c.args.limits env c.args.steps.now c.args.work.now c.loop-i.i (Put value.Unit) _ _ _ _ _ _ c.advance.result c.loop-i-test.true c.loop-i.invariant.0 did _ (sym c.placed.ensures ∙ c.in_err-placed.was));
       same = c.advance.ensures.same ∙ c.loop-i.invariant.1;
-      stays = c.advance.ensures.stays;
     }
 
 pub returns : goal.returns
@@ -52,5 +49,4 @@ returns g c =
     record {
       walks = walk_done c.args.limits env c.args.steps.now c.args.work.now c.loop-i.i c.loop-i.work c.loop-i.fill (held c.loop-i.frame) c.only.result c.loop-i-test.false c.loop-i.invariant.0 c.only.ensures;
       same = c.loop-i.invariant.1;
-      stays = c.loop-i.invariant.2;
     }

@@ -9,4 +9,3 @@ invariant-loop-i g l =
     let slots = g.S.Shelf.slots in
     Far l.limits (holding (slots l.initial.shelf)) l.steps l.initial.work l.i l.work l.fill (held l.frame)
     × (slots l.shelf ≡ slots l.initial.shelf)
-    × g.S.Shelf.sound l.shelf
