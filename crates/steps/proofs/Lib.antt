@@ -1,1 +1,4 @@
 pub mod Laws
+mod Framed
+mod Advancing
+mod Looping
