@@ -2,6 +2,4 @@ mod Gathers
 mod Fresh
 mod Outcomes
 mod Loads
-mod Framed
-mod Advancing
-mod Walking
+mod Parts

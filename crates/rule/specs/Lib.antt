@@ -2,4 +2,5 @@ pub mod Kept
 pub mod Sets
 pub mod Check
 pub mod Run
+pub mod Later
 pub mod Rules
