@@ -1,4 +1,6 @@
+pub mod Kept
 pub mod Sets
 pub mod Check
 pub mod Run
+pub mod Later
 pub mod Rules

@@ -1,6 +1,6 @@
 -- RUN's walk: each step on values, up to the first refusal. A slot's text goes behind the others in the work buffer, as a new one
 -- does, and no other byte is written. Assumes nothing.
-use Rattle.std.specs.Prelude.{◌≡◌, ℕ, List, [], ◌∷◌, ◌++◌, map, length, take, drop, Some, None, Ok, Err, Option, Result}
+use Rattle.std.specs.Prelude.{◌≡◌, ℕ, List, ◌++◌, length, take, drop, Some, None, Ok, Err, Option, Result}
 use Rattle.fault.specs.Outcomes.{Outcome, beside}
 use Rattle.fault.specs.Refusals.{bind}
 use Rattle.fault.specs.declared.Fault.{Fault}
@@ -10,10 +10,8 @@ use Rattle.text.specs.declared.span.Span.{Span}
 use Rattle.value.specs.Values.{Meaning, meant, text_in, Inside}
 use Rattle.value.specs.declared.value.Value.{Value}
 use Rattle.routines.specs.declared.made.Limits.{Limits}
-use Rattle.operators.specs.Applied.{Held}
-use Rattle.operators.specs.Rooms.{Room, room, brought, applied_in, assigned_in, Grown}
-use Rattle.steps.specs.Frames.{done}
-use Rattle.steps.specs.Walk.{Entries, entries, Machine, step, walk}
+use Rattle.operators.specs.Rooms.{Room, room, brought, applied_in, assigned_in}
+use Rattle.steps.specs.Walk.{Machine, walk}
 use Rattle.steps.specs.declared.step.Step.{Step}
 use Rattle.rule.specs.Check.{Env}
 
@@ -37,24 +35,7 @@ with_rest rest (Err r) = Err (r.0, r.1.bytes ++ rest)
 abbrev pub walked : Limits → Env → List Step → List ℕ → Outcome (List ℕ) Meaning Refusal
 walked l env xs work = with_rest (drop 65536 work) (walk (values l env) xs (room 0 (take 65536 work)))
 
--- ---- the code's frame of values, whose texts are in the work buffer
-
-abbrev pub meanings : List ℕ → Entries (Value Span) → Entries Meaning
-meanings work e = entries (map (meant work) e.stack) (map (meant work) e.locals)
-
-abbrev pub All : {A : Type 0} → (A → Type 0) → List A → Type 0
-All P [] = Unit {0}
-All P (x ∷ xs) = P x × All P xs
-
-pub record AllHeld (work : List ℕ) (fill : ℕ) (e : Entries (Value Span)) : Type 0 where
-  pub stack : All (Held work fill) e.stack
-  pub locals : All (Held work fill) e.locals
-
--- one step of the code, which answers r
-pub record Advances (l : Limits) (env : Env) (x : Step) (work : List ℕ) (fill : ℕ) (e : Entries (Value Span)) (r : Result Unit Fault) (work' : List ℕ) (fill' : ℕ) (e' : Entries (Value Span)) : Type 0 where
-  pub outcome : step (values l env) x (meanings work e) (room fill work) ≡ beside (room fill' work') (done r (meanings work' e'))
-  pub held : r ≡ Ok tt → AllHeld work' fill' e'
-  pub grown : Grown work fill work' fill'
+-- ---- the code
 
 -- the code's walk in a work buffer of which nothing is left out: it answers r, whatever stands behind the buffer
 pub record Walks (l : Limits) (env : Env) (xs : List Step) (work : List ℕ) (r : Result (Value Span) Refusal) (work' : List ℕ) : Type 0 where

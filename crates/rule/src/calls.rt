@@ -4,6 +4,7 @@ ghost use Rattle.shelf.specs.Slots.{holding};
 ghost use Rattle.rule.specs.Run.{Ends};
 ghost use Rattle.rule.specs.Rules.{blank, rule_of, adds, added, checks, passed, ran};
 
+use arrayvec::ArrayVec;
 use crate::checking::{check_steps, is_fresh, kinds_at};
 use crate::rule::{Rule, State};
 use crate::running::run_steps;
@@ -20,8 +21,7 @@ impl Rule {
         ensures { rule_of result ≡ blank }
     {
         Rule {
-            steps: [Step::Put(Value::Unit); 128],
-            count: 0,
+            steps: ArrayVec::new(),
             state: State::Open,
         }
     }
@@ -29,7 +29,7 @@ impl Rule {
     pub fn clear(&mut self)
         ensures { rule_of self.new ≡ blank }
     {
-        self.count = 0;
+        self.steps.clear();
         self.state = State::Open;
     }
 
@@ -40,14 +40,7 @@ impl Rule {
         step.test()?;
         match self.state {
             State::Passed { .. } => Err(Fault::RulePassed),
-            State::Open => {
-                if self.count >= 128 {
-                    return Err(Fault::RuleFull);
-                }
-                self.steps[self.count] = step;
-                self.count += 1;
-                Ok(())
-            }
+            State::Open => self.steps.try_push(step).map_err(|_| Fault::RuleFull),
         }
     }
 
@@ -56,7 +49,7 @@ impl Rule {
         ensures answer { result ≡ checks (holding (S.slots shelf.now)) (rule_of self.old) }
         ensures after { rule_of self.new ≡ passed (holding (S.slots shelf.now)) (rule_of self.old) }
     {
-        let steps = &self.steps[0..self.count];
+        let steps = self.steps.as_slice();
         let answer = check_steps(steps, shelf)?;
         let kinds = kinds_at(steps, shelf);
         self.state = State::Passed { kinds, answer };
@@ -75,8 +68,8 @@ impl Rule {
         match &self.state {
             State::Open => Err(Fault::NotPassed.into()),
             State::Passed { kinds, .. } => {
-                let steps = &self.steps[0..self.count];
-                if !is_fresh(steps, &kinds[0..self.count], shelf) {
+                let steps = self.steps.as_slice();
+                if !is_fresh(steps, kinds.as_slice(), shelf) {
                     return Err(Fault::Outdated.into());
                 }
                 run_steps(steps, shelf, limits, work)

@@ -1,63 +1,73 @@
-// The walk of a check, over sets of kinds, and the kinds at the loads.
-ghost use Rattle.std.specs.Prelude.{◌≡◌, ◌≤◌, true, length, take, Ok};
+// A check: the walk over sets of kinds, and the kinds at the loads.
+ghost use Rattle.std.specs.Prelude.{◌≡◌, ◌≤◌, true, length};
 ghost use Rattle.shelf.specs.Slots.{holding};
-ghost use Rattle.steps.specs.Steps.{takes, all_taken};
-ghost use Rattle.fault.specs.Outcomes.{beside};
-ghost use Rattle.steps.specs.Walk.{step as stepped};
-ghost use Rattle.steps.specs.Frames.{held, done};
-ghost use Rattle.rule.specs.Check.{sets, checked, kind_at, kinds_at, same_kind, fresh};
+ghost use Rattle.steps.specs.Steps.{all_taken};
+ghost use Rattle.rule.specs.Check.{sets, checked, kind_at, kinds_at, fresh};
 
 use crate::sets::{Form, select_sets};
-use fault::{Fault, Refusal, placed};
+use arrayvec::ArrayVec;
+use fault::{Fault, Refusal};
 use shelf::Shelf;
-use steps::{Frame, Step};
-use value::{Kind, KindSet};
+use steps::{Machine, Step, walk};
+use text::Span;
+use value::{Kind, KindSet, Op, Value};
 
-fn advance<S: Shelf>(step: Step, frame: &mut Frame<KindSet>, shelf: &S) -> Result<(), Fault>
-    requires taken { takes step ≡ Ok tt }
-    ensures { stepped (sets (holding (S.slots shelf.now))) step (held frame.old) tt ≡ beside tt (done result (held frame.new)) }
-{
-    match step {
-        Step::Put(value) => frame.push(KindSet::single(value.kind())),
-        Step::Slot(slot) => {
-            let kind = shelf.kind(slot)?;
-            frame.push(KindSet::single(kind))
-        }
-        Step::Local(local) => {
-            let kinds = frame.locals[local as usize];
-            frame.push(kinds)
-        }
-        Step::Keep(local) => {
-            let kinds = frame.pop()?;
-            frame.locals[local as usize] = kinds;
-            Ok(())
-        }
-        Step::Apply(op) => {
-            let right = frame.pop()?;
-            let left = frame.pop()?;
-            let kinds = select_sets(Form::Binary, op, left, right)?;
-            frame.push(kinds)
-        }
-        Step::Assign { op, local } => {
-            let right = frame.pop()?;
-            let left = frame.locals[local as usize];
-            let kinds = select_sets(Form::Assigning, op, left, right)?;
-            frame.locals[local as usize] = kinds;
-            Ok(())
-        }
+// The machine of a check: a slot has the kind of its value now.
+#[derive(Drop)]
+struct Sets<'a, S> {
+    shelf: &'a S,
+}
+
+impl<S: Shelf> Machine for Sets<'_, S> {
+    ghost use Rattle.std.proofs.Common.{refl, ◌∙◌};
+    ghost use Rattle.value.specs.declared.set.KindSet.{KindSet as Kinds};
+
+    type Entry = KindSet;
+
+    ghost World = { Unit {0} };
+
+    ghost Meant = { Kinds };
+
+    ghost does = { λ m. sets (holding (S.slots m.shelf.now)) };
+
+    ghost world = { λ m. tt };
+
+    ghost means = { λ m kinds. kinds };
+
+    ghost holds = { λ m kinds. Unit {0} };
+
+    ghost later = { λ a b. S.slots b.shelf.now ≡ S.slots a.shelf.now };
+
+    ghost at_once = { λ a. refl };
+
+    ghost leads_on = { λ a b c p q. q ∙ p };
+
+    ghost keeps = { λ a b p. record { machine = λ i. sets (holding (p i)); meant = λ x h. refl; held = λ x h. tt } };
+
+    fn put(&self, literal: Value<Span>) -> KindSet {
+        KindSet::single(literal.kind())
+    }
+
+    fn load(&mut self, slot: u32) -> Result<KindSet, Fault> {
+        self.shelf.kind(slot).map(KindSet::single)
+    }
+
+    fn apply(&mut self, op: Op, left: KindSet, right: KindSet) -> Result<KindSet, Fault> {
+        select_sets(Form::Binary, op, left, right)
+    }
+
+    fn assign(&mut self, op: Op, local: &mut KindSet, right: KindSet) -> Result<(), Fault> {
+        *local = select_sets(Form::Assigning, op, *local, right)?;
+        Ok(())
     }
 }
 
 // CHECK's answer: the set of kinds that the last value can have.
 pub(crate) fn check_steps<S: Shelf>(steps: &[Step], shelf: &S) -> Result<KindSet, Refusal>
-    requires taken { all_taken steps.now ≡ true }
+    requires { all_taken steps.now ≡ true }
     ensures { result ≡ checked (holding (S.slots shelf.now)) steps.now }
 {
-    let mut frame = Frame::new(KindSet::single(Kind::Unit));
-    for i in 0..steps.len() {
-        placed(advance(steps[i], &mut frame, shelf), i)?;
-    }
-    frame.only(steps.len())
+    walk(steps, &mut Sets { shelf })
 }
 
 // The kind now of the slot that a step loads.
@@ -70,36 +80,24 @@ fn kind_at<S: Shelf>(step: Step, shelf: &S) -> Option<Kind>
     }
 }
 
-pub(crate) fn kinds_at<S: Shelf>(steps: &[Step], shelf: &S) -> [Option<Kind>; 128]
-    requires few { length steps.now ≤ 128 }
-    ensures { take (length steps.now) result ≡ kinds_at (holding (S.slots shelf.now)) steps.now }
+pub(crate) fn kinds_at<S: Shelf>(steps: &[Step], shelf: &S) -> ArrayVec<Option<Kind>, 128>
+    requires { length steps.now ≤ 128 }
+    ensures { result.items ≡ kinds_at (holding (S.slots shelf.now)) steps.now }
 {
-    let mut kinds = [None; 128];
-    for i in 0..steps.len() {
-        kinds[i] = kind_at(steps[i], shelf);
+    let mut kinds = ArrayVec::new();
+    for step in steps {
+        kinds.push(kind_at(*step, shelf));
     }
     kinds
 }
 
-fn same_kind(a: Option<Kind>, b: Option<Kind>) -> bool
-    ensures { result ≡ same_kind a b }
-{
-    match (a, b) {
-        (Some(j), Some(k)) => j.number() == k.number(),
-        (None, None) => true,
-        _ => false,
-    }
-}
-
 // Whether every load finds the kind that was kept of it.
 pub(crate) fn is_fresh<S: Shelf>(steps: &[Step], kinds: &[Option<Kind>], shelf: &S) -> bool
-    requires all { length kinds.now ≡ length steps.now }
+    requires { length kinds.now ≡ length steps.now }
     ensures { result ≡ fresh (holding (S.slots shelf.now)) steps.now kinds.now }
 {
-    for i in 0..steps.len() {
-        if !same_kind(kind_at(steps[i], shelf), kinds[i]) {
-            return false;
-        }
-    }
-    true
+    steps
+        .iter()
+        .zip(kinds)
+        .all(|(step, kind)| kind_at(*step, shelf) == *kind)
 }

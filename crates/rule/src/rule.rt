@@ -1,26 +1,26 @@
 // A rule: up to 128 steps, open to more of them or passed by a check.
-ghost use Rattle.std.specs.Prelude.{◌≡◌, ◌≤◌, true, length, take};
+ghost use Rattle.std.specs.Prelude.{◌≡◌, true, length};
 ghost use Rattle.steps.specs.Steps.{all_taken};
+ghost use Rattle.rule.specs.Kept.{kept_of};
 
+use arrayvec::ArrayVec;
 use steps::Step;
 use value::{Kind, KindSet};
 
 // A passed rule keeps the kind of each slot that it loads, at the place of its step, and the kinds that its answer can have.
-#[derive(Clone, Copy)]
+#[derive(Drop)]
 pub enum State {
     Open,
     Passed {
-        kinds: [Option<Kind>; 128],
+        kinds: ArrayVec<Option<Kind>, 128>,
         answer: KindSet,
     },
 }
 
 #[derive(Drop)]
 pub struct Rule {
-    pub steps: [Step; 128],
-    pub count: usize,
+    pub steps: ArrayVec<Step, 128>,
     pub state: State,
-    ghost few: { count ≤ 128 },
-    ghost size: { length steps ≡ 128 },
-    ghost taken: { all_taken (take count steps) ≡ true },
+    ghost taken: { all_taken steps.items ≡ true },
+    ghost kept: { kept_of (length steps.items) state ≡ length steps.items },
 }

@@ -1,2 +1,4 @@
 pub mod Laws
-mod Stacks
+mod Framed
+mod Advancing
+mod Looping

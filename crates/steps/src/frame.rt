@@ -1,13 +1,12 @@
 // What a walk over steps works in, for entries of any type: values in a run, sets of kinds in a check.
-ghost use Rattle.std.specs.Prelude.{◌≡◌, ◌≤◌, length};
+ghost use Rattle.std.specs.Prelude.{◌≡◌, length};
+
+use arrayvec::ArrayVec;
 
 #[derive(Drop)]
 pub struct Frame<T> {
-    // the stack's entries are the first `count`, the top last
-    pub stack: [T; 16],
-    pub count: usize,
+    // the top last
+    pub stack: ArrayVec<T, 16>,
     pub locals: [T; 8],
-    ghost few: { count ≤ 16 },
-    ghost sixteen: { length stack ≡ 16 },
     ghost eight: { length locals ≡ 8 },
 }

@@ -1,9 +1,13 @@
-// The steps of a rule, and the frame that a walk over them works in.
+// The steps of a rule, the frame that a walk over them works in, and the walk.
 #![tactic(auto)]
 
 pub mod frame;
 pub mod frames;
+pub mod machine;
 pub mod step;
+pub mod walking;
 
 pub use frame::Frame;
+pub use machine::Machine;
 pub use step::Step;
+pub use walking::walk;

@@ -23,6 +23,13 @@ pub enum Step {
     Assign { op: Op, local: u8 },
 }
 
+// The unit as a literal, in the unused places of a rule.
+impl Default for Step {
+    fn default() -> Step {
+        Step::Put(Value::Unit)
+    }
+}
+
 impl Step {
     // Whether a rule takes the step: a local is below 8, and a literal is of one of the first five kinds.
     pub fn test(self) -> Result<(), Fault>

@@ -1,7 +1,7 @@
 use Rattle.std.proofs.Common.{◌-◌, ◌∙◌}
 use native.Mathlib.Nat.{sub-zero}
 use Rattle.shelf.specs.Slots.{holding}
-use Rattle.rule.proofs.Walking.{walks_end}
+use Rattle.rule.proofs.Parts.{walks_end}
 use Rattle.rule.proofs.running.run_steps.Goals as goal
 
 pub returns : goal.returns
