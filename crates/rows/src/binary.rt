@@ -1,5 +1,6 @@
 // The routine of a binary operator for two kinds, in the order of rhai's `get_builtin_binary_op_fn`.
 ghost use Rattle.std.specs.Prelude.{◌≡◌};
+ghost use Rattle.order.specs.declared.comparison.Comparison.TheVariants.{Equals, Differs};
 ghost use Rattle.rows.specs.Rows.{row_of, int_row, float_row, bool_row, text_row, blob_row, unit_row, range_row, unlike_row, differing_row};
 ghost use Rattle.rows.specs.Routines.{results};
 
@@ -17,6 +18,7 @@ fn int_row(op: Op) -> Option<FnBuiltin>
         .or_else(|| choice::range(op).map(FnBuiltin::Range))
 }
 
+// The rows of two kinds each name their own routines; one function for two of them would take these as arguments, and be no plainer.
 fn float_row(op: Op) -> Option<FnBuiltin>
     ensures { result ≡ float_row op }
 {
@@ -51,11 +53,13 @@ fn blob_row(op: Op) -> Option<FnBuiltin>
     }
 }
 
-// Two units are equal, and nothing else.
-fn unit_row(op: Op) -> Option<FnBuiltin>
-    ensures { result ≡ unit_row op }
+// Values that the kinds alone tell apart: one comparison always holds of them, and no other. Two units are equal, and values of
+// unequal kinds differ.
+fn constant_row(op: Op, always: Comparison) -> Option<FnBuiltin>
+    ensures equal { always ≡ Equals → result ≡ unit_row op }
+    ensures differing { always ≡ Differs → result ≡ differing_row op }
 {
-    choice::comparison(op).map(|c| FnBuiltin::Constant(matches!(c, Comparison::Equals)))
+    choice::comparison(op).map(|c| FnBuiltin::Constant(c == always))
 }
 
 fn range_row(op: Op) -> Option<FnBuiltin>
@@ -71,11 +75,10 @@ fn unlike_row(op: Op) -> Option<FnBuiltin>
     choice::equality(op).map(|asked| FnBuiltin::Constant(!asked))
 }
 
-// Values of unequal kinds differ, and nothing else.
 fn differing_row(op: Op) -> Option<FnBuiltin>
     ensures { result ≡ differing_row op }
 {
-    choice::comparison(op).map(|c| FnBuiltin::Constant(matches!(c, Comparison::Differs)))
+    constant_row(op, Comparison::Differs)
 }
 
 pub fn get_builtin_binary_op_fn(op: Op, x: Kind, y: Kind) -> Option<FnBuiltin>
@@ -86,7 +89,7 @@ pub fn get_builtin_binary_op_fn(op: Op, x: Kind, y: Kind) -> Option<FnBuiltin>
         (Kind::Bool, Kind::Bool) => bool_row(op),
         (Kind::Str, Kind::Str) | (Kind::Char, Kind::Char) => text_row(op),
         (Kind::Blob, Kind::Blob) => blob_row(op),
-        (Kind::Unit, Kind::Unit) => unit_row(op),
+        (Kind::Unit, Kind::Unit) => constant_row(op, Comparison::Equals),
         (Kind::Float, Kind::Float) | (Kind::Float, Kind::Int) | (Kind::Int, Kind::Float) =>
             float_row(op),
         (Kind::Int, Kind::Unit) | (Kind::Unit, Kind::Int) => choice::range(op)
