@@ -34,7 +34,7 @@ fn show(rt: &HostRuntime, answer: Result<Reply, Refusal>, work: &[u8]) -> io::Re
         Ok(Reply::Kind(kind)) => println!(rt; "{kind:?}"),
         Ok(Reply::Mark(mark)) => println!(rt; "{mark:?}"),
         Ok(Reply::Kinds(kinds)) => println!(rt; "kinds {}", kinds.bits),
-        Err(refusal) => println!(rt; "refused {} at {}", refusal.fault.number(), refusal.place),
+        Err(refusal) => println!(rt; "refused {} at {}", u8::from(refusal.fault), refusal.place),
     }
 }
 

@@ -72,34 +72,12 @@ fn hold_shared<'a, S: Share<'a> + Drop>(
     hold_last(rt, Joined::new(S::share(many), Table::share(few)))
 }
 
-// The same with two shelves in the place of one, with four and with eight.
-fn hold_twice<'a, S: Share<'a> + Drop>(
-    rt: &HostRuntime,
-    many: &'a mut [Record],
-    few: &'a mut [Record],
-) -> io::Result<()> {
-    hold_shared::<Joined<S, S>>(rt, many, few)
-}
-
-fn hold_four_times<'a, S: Share<'a> + Drop>(
-    rt: &HostRuntime,
-    many: &'a mut [Record],
-    few: &'a mut [Record],
-) -> io::Result<()> {
-    hold_twice::<Joined<S, S>>(rt, many, few)
-}
-
-fn hold_eight_times<'a, S: Share<'a> + Drop>(
-    rt: &HostRuntime,
-    many: &'a mut [Record],
-    few: &'a mut [Record],
-) -> io::Result<()> {
-    hold_four_times::<Joined<S, S>>(rt, many, few)
-}
+// Two shelves of one make, joined.
+type Two<S> = Joined<S, S>;
 
 // Sixteen tables with 65,535 slots, and one with three.
 pub fn hold_wide(rt: &HostRuntime) -> io::Result<()> {
     let mut many = vec![in rt.alloc(); BLANK; 65535]?;
     let mut few = [BLANK; 3];
-    hold_eight_times::<Joined<Table, Table>>(rt, &mut many, &mut few)
+    hold_shared::<Two<Two<Two<Two<Table>>>>>(rt, &mut many, &mut few)
 }
