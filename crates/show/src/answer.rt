@@ -17,10 +17,7 @@ impl fmt::Display for Answer<'_> {
         match self.0 {
             Ok(None) => f.write_str("ok"),
             Ok(Some(value)) => write!(f, "{value}"),
-            Err(refusal) => {
-                let number = refusal.fault.number();
-                write!(f, "no\t{number}\t{}", refusal.place)
-            }
+            Err(refusal) => write!(f, "no\t{}\t{}", u8::from(refusal.fault), refusal.place),
         }
     }
 }
