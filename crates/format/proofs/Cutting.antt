@@ -1,8 +1,8 @@
 -- The fields of a line, by its first separator.
-use Rattle.std.proofs.Common.{◌≡◌, ℕ, zero, suc, ◌+◌, ◌-◌, ◌<◌, true, false, eqb, List, [], ◌∷◌, length, get_or, take, drop, refl, add-one, arith}
+use Rattle.std.proofs.Common.{◌≡◌, ℕ, zero, suc, ◌+◌, ◌-◌, ◌<◌, true, false, eqb, List, [], ◌∷◌, length, get_or, take, drop, refl, sym, ap, ◌∙◌, arith}
 use Rattle.std.proofs.lemmas.Bool.{ne_eqb, eq-eqb}
+use Rattle.std.proofs.lemmas.List.{drop-drop}
 use Rattle.std.proofs.lemmas.Slice.{between_to_end}
-use native.Mathlib.Nat.{sub-zero}
 use Rattle.format.specs.Fields.{fields}
 
 pub fields_none : (sep : ℕ) (bs : List ℕ) → ((k : ℕ) → k < length bs → get_or bs k 0 ≡ sep → ⊥) → fields sep bs ≡ bs ∷ []
@@ -19,7 +19,8 @@ fields_cut sep (b ∷ bs) (suc r) lt h at =
     let ih : fields sep bs ≡ take r bs ∷ fields sep (drop (suc r) bs) = fields_cut sep bs r (omega arith) (λ k l. h (suc k) (omega arith)) at in
     rw (e, ih)
 
-pub fields_parts : (sep : ℕ) (bs : List ℕ) (r : ℕ) → r < length bs → ((k : ℕ) → k < r → get_or bs k 0 ≡ sep → ⊥) → get_or bs r 0 ≡ sep → fields sep bs ≡ take (r - 0) bs ∷ fields sep (take (length bs - (r + 1)) (drop (r + 1) bs))
-fields_parts sep bs r lt h at =
-    rw (sub-zero, between_to_end bs (r + 1) (length bs) (omega arith), add-one)
-    (fields_cut sep bs r lt h at)
+pub fields_parts : (sep : ℕ) (bs first rest : List ℕ) (r : ℕ) → first ≡ take r bs → rest ≡ drop r bs → r < length bs → ((k : ℕ) → k < r → get_or bs k 0 ≡ sep → ⊥) → get_or bs r 0 ≡ sep → fields sep bs ≡ first ∷ fields sep (take (length rest - 1) (drop 1 rest))
+fields_parts sep bs first rest r f e lt h at =
+    let next : r + 1 ≡ suc r = omega arith in
+    let behind : take (length rest - 1) (drop 1 rest) ≡ drop (suc r) bs = between_to_end rest 1 (length rest) (omega arith) ∙ ap (drop 1) e ∙ drop-drop 1 r bs ∙ ap (λ k. drop k bs) next in
+    fields_cut sep bs r lt h at ∙ (λ i. sym f i ∷ fields sep (sym behind i))

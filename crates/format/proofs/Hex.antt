@@ -1,6 +1,7 @@
-use Rattle.std.proofs.Common.{◌≡◌, ℕ, zero, suc, ◌+◌, ◌*◌, ◌/◌, ◌%◌, ◌^◌, ◌<◌, ◌≤◌, List, [], ◌∷◌, ◌++◌, length, get_or, take, set, sym, refl, ap, ◌∙◌, subst, append_assoc, pow-suc, arith, lit<, length-append}
+use Rattle.std.proofs.Common.{◌≡◌, ℕ, zero, suc, ◌+◌, ◌*◌, ◌/◌, ◌%◌, ◌^◌, ◌<◌, ◌≤◌, List, [], ◌∷◌, ◌++◌, length, get_or, take, drop, set, sym, refl, ap, ◌∙◌, subst, append_assoc, pow-suc, arith, lit<, length-append}
 use native.Mathlib.Nat.{pow-le-pow_right}
-use Rattle.std.proofs.lemmas.List.{take_more, take_all, take_more_set}
+use Rattle.std.proofs.lemmas.List.{take_more, take_all, take_more_set, get_or-take, get_or-drop}
+use Rattle.std.specs.Simd.{first_chunks}
 use Rattle.std.specs.List.{AllByRecursion}
 use Rattle.std.proofs.ByRecursion.{All-push, All-get_or}
 use Rattle.format.specs.Written.{figure, figures, pairs}
@@ -42,6 +43,18 @@ bits_none bs i v lt e h =
 
 pub bits_all : (bs : List ℕ) (i n : ℕ) → i ≡ 16 → length bs ≡ 16 → figures i n ≡ take i bs → figures 16 n ≡ bs
 bits_all bs i n e l h = subst (λ (k : ℕ). figures k n ≡ take k bs) e h ∙ take_all 16 bs (omega arith)
+
+-- a slice in twos
+two_at : (k i j : ℕ) (bs : List ℕ) → i < k → j < 2 → get_or (get_or (first_chunks 2 k bs) i []) j 0 ≡ get_or bs (2 * i + j) 0
+two_at zero i j bs lt h = absurd (omega arith)
+two_at (suc k) zero j bs lt h = get_or-take 2 bs j 0 h ∙ ap (λ n. get_or bs n 0) (omega arith)
+two_at (suc k) (suc i) j bs lt h = two_at k i j (drop 2 bs) (omega arith) h ∙ get_or-drop 2 bs (2 * i + j) 0 ∙ ap (λ n. get_or bs n 0) (omega arith)
+
+pub two_in : (digits : List (List ℕ)) (bs : List ℕ) (i : ℕ) → digits ≡ first_chunks 2 (length bs / 2) bs → i < length bs / 2 → (get_or (get_or digits i []) 0 0 ≡ get_or bs (2 * i) 0) × (get_or (get_or digits i []) 1 0 ≡ get_or bs (2 * i + 1) 0)
+two_in digits bs i e lt = (
+  ap (λ l. get_or (get_or l i []) 0 0) e ∙ two_at (length bs / 2) i 0 bs lt (omega arith) ∙ ap (λ n. get_or bs n 0) (omega arith),
+  ap (λ l. get_or (get_or l i []) 1 0) e ∙ two_at (length bs / 2) i 1 bs lt (omega arith),
+)
 
 pub pairs_push : (bs : List ℕ) (b : ℕ) → pairs (bs ++ (b ∷ [])) ≡ pairs bs ++ (figure (b / 16) ∷ figure (b % 16) ∷ [])
 pairs_push [] b = refl

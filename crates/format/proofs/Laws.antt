@@ -1,5 +1,5 @@
 -- What the crates above use: a value that is written in few bytes needs little room, and a field is no longer than its line.
-use Rattle.std.proofs.Common.{◌≡◌, ℕ, ◌+◌, ◌*◌, ◌≤◌, Bool, true, false, cond, eqb, List, [], ◌∷◌, length, refl, arith}
+use Rattle.std.proofs.Common.{◌≡◌, ℕ, ◌+◌, ◌*◌, ◌≤◌, Bool, true, false, cond, eqb, List, [], ◌∷◌, length, refl, subst, arith}
 use lib.Utf8.{encode}
 use Rattle.std.specs.List.{AllByRecursion}
 use Rattle.value.specs.Values.{Meaning, unit, bool, int, float, char, str, blob, excl, incl}
@@ -19,7 +19,7 @@ readable_in room room' (blob t) h f = (f.0, omega (arith, length_pairs t))
 readable_in room room' (excl a b) h f = f
 readable_in room room' (incl a b) h f = f
 
-abbrev pub Within : ℕ → List (List ℕ) → Type 0
+abbrev Within : ℕ → List (List ℕ) → Type 0
 Within n fs = AllByRecursion (λ f. length f ≤ n) fs
 
 wider : (n m : ℕ) (fs : List (List ℕ)) → n ≤ m → Within n fs → Within m fs
@@ -40,8 +40,8 @@ within sep (b ∷ bs) =
       | false ↦ wider (1 + length bs) (length (b ∷ bs)) (onto b (fields sep bs)) (omega arith) (onto_within (length bs) b (fields sep bs) ih)
     ]
 
-pub fields_within : (sep n : ℕ) (bs : List ℕ) → length bs ≤ n → Within n (fields sep bs)
-fields_within sep n bs le = wider (length bs) n (fields sep bs) le (within sep bs)
+pub first_within : (sep : ℕ) (bs x : List ℕ) (fs : List (List ℕ)) → fields sep bs ≡ x ∷ fs → length x ≤ length bs
+first_within sep bs x fs e = (subst (Within (length bs)) e (within sep bs)).0
 
 -- there is at least one field
 pub record Some-fields (sep : ℕ) (bs : List ℕ) : Type 0 where

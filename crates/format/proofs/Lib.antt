@@ -1,7 +1,7 @@
 mod Chars
 mod Cutting
 mod Floats
-mod Hex
+pub mod Hex
 pub mod Laws
 mod Decimal
 mod Naming

@@ -1,25 +1,28 @@
 -- Values of one kind: that none is written so, from what each kind's own reading says.
-use Rattle.std.proofs.Common.{◌≡◌, ℕ, ◌+◌, ◌*◌, ◌/◌, ◌%◌, ◌<◌, ◌≤◌, Bool, true, false, cond, ltb, List, [], ◌∷◌, length, get_or, drop, ℤ, codes, sym, refl, ap, ◌∙◌, subst, ⊎_elim, arith, length-drop, length-take}
+use Rattle.std.proofs.Common.{◌≡◌, ℕ, ◌+◌, ◌*◌, ◌/◌, ◌%◌, ◌<◌, ◌≤◌, Bool, true, false, ltb, List, [], ◌∷◌, length, get_or, drop, ℤ, sym, refl, ap, ◌∙◌, subst, ⊎_elim, arith, length-drop, length-take}
 use lib.Ieee.{Float}
 use lib.Utf8.{encode, scalar, scalar_cases}
-use Rattle.std.specs.Str.{bytes_eq}
-use Rattle.std.proofs.lemmas.Slice.Eq.{bytes_eq-Decides}
+use Rattle.std.specs.Bool.{then_some}
+use Rattle.std.specs.Option.{option_map}
 use Rattle.std.proofs.lemmas.Bool.{both_ways, cond_both, ltb-true}
 use Rattle.std.proofs.ByRecursion.{All-take, All-drop, All-from_get_or}
 use Rattle.std.specs.Char.{len_utf8}
 use Rattle.std.proofs.lemmas.Str.{length-encode}
 use Rattle.std.proofs.lemmas.Bool.Decides.{nat_tests}
 use Rattle.text.specs.Buffers.{span_text}
+use Rattle.text.specs.Scalars.{utf8}
 use Rattle.text.specs.declared.span.Span.{Span}
 use Rattle.value.specs.Values.{Meaning, unit, bool, int, float, char, str, blob, excl, incl, kind_in}
 use Rattle.value.specs.declared.kind.Kind.{Kind}
 use Rattle.value.specs.declared.kind.Kind.TheVariants as kind
 use Rattle.std.proofs.Common.{Some, None, Option}
+use Rattle.value.specs.declared.value.Range.{Range}
 use Rattle.value.specs.declared.value.Value.{Value}
+use Rattle.value.specs.declared.value.Value.TheVariants as value
 use Rattle.value.proofs.Laws.{kind_meaning}
 use Rattle.format.proofs.Floats.{un, un_figure}
 use Rattle.format.specs.Written.{figure, pairs, written}
-use Rattle.format.specs.Reading.{Bytes, Readable, ReadableIn, ReadsValue, ReadsValueAs}
+use Rattle.format.specs.Reading.{Bytes, Readable, ReadableIn, ReadsAs, ReadsEndsAs, ReadsText, ReadsValue, ReadsValueAs}
 
 -- ---- a value of a kind, by what it holds
 
@@ -61,17 +64,6 @@ pub none_of : (room : ℕ) (bs : List ℕ) (k j : Kind) → j ≡ k → ((d : Da
 none_of room bs k j q h m f e =
     let p = subst (λ (i : Kind). (d : Data i) × (m ≡ holding i d)) (f.0 ∙ q) (data_of m) in
     h p.0 (subst (ReadableIn room) p.1 f.1) (sym (ap written p.1) ∙ e)
-
--- ---- what `same` finds
-pub same_is : (xs ys : List ℕ) → true ≡ bytes_eq xs ys → xs ≡ ys
-same_is xs ys e = (bytes_eq-Decides xs ys).0 (sym e)
-
-pub not_same : (xs ys : List ℕ) → false ≡ bytes_eq xs ys → xs ≡ ys → ⊥
-not_same xs ys e q = both_ways _ (sym e) ((bytes_eq-Decides xs ys).1 q)
-
-pub no_truth : (bs : List ℕ) → false ≡ bytes_eq bs (codes "true") → false ≡ bytes_eq bs (codes "false") → (b : Bool) → cond b (codes "true") (codes "false") ≡ bs → ⊥
-no_truth bs t f true e = not_same bs (codes "true") t (sym e)
-no_truth bs t f false e = not_same bs (codes "false") f (sym e)
 
 -- ---- the bytes that pairs of digits spell
 
@@ -128,3 +120,28 @@ room_enough room (incl a b) f = f
 pub reads_value : {k : Kind} {bs buffer : List ℕ} {r : Option (Value Span)} → ReadsValueAs k bs buffer r → ReadsValue k bs buffer r
 reads_value {buffer = buffer} {r = None} p = λ m q f e. p.reads m (q, room_enough (length buffer) m f) e
 reads_value {buffer = buffer} {r = Some v} p = (sym (kind_meaning (span_text buffer) v) ∙ p.reads.0.0, p.reads.1, p.lies)
+
+-- ---- what each kind's reading gives
+
+module _ (k : Kind) (bs buffer : List ℕ) where
+  pub char_value : (t : List ℕ) (o : Option ℕ) → k ≡ kind.Char → (pairs t ≡ bs) × Bytes t × (length t ≤ length buffer) → ReadsAs (λ c. scalar c ≡ true) encode t o → ReadsValueAs k bs buffer (option_map (λ c. value.Char c) o)
+  char_value t None q h r = record {
+    reads = none_of _ _ kind.Char k q (λ d f e. r d f.0 (pairs_same (encode d) t (encode_bytes d f.0) h.1 (e ∙ sym h.0)));
+    lies = tt;
+  }
+  char_value t (Some c) q h r = record { reads = ((sym q, (r.0, omega (arith, ap length r.1, h.2))), ap pairs r.1 ∙ h.0); lies = tt }
+
+  pub str_value : (s : Span) (b : Bool) → k ≡ kind.Str → ReadsText bs buffer (Some s) → b ≡ utf8 (span_text buffer s) → ReadsValueAs k bs buffer (then_some b (value.Str s))
+  str_value s true q h e = record { reads = ((sym q, (sym e, h.2, span_short buffer s)), h.0); lies = h.1 }
+  str_value s false q h e = record {
+    reads = none_of _ _ kind.Str k q (λ d f g. both_ways (utf8 d) (ap utf8 (pairs_same d _ f.1 h.2 (g ∙ sym h.0)) ∙ sym e) f.0);
+    lies = tt;
+  }
+
+  pub excl_value : (o : Option Range) → k ≡ kind.Excl → ReadsEndsAs bs o → ReadsValueAs k bs buffer (option_map (λ r. value.Excl r) o)
+  excl_value None q r = record { reads = none_of _ _ kind.Excl k q (λ d f e. r (record { from = d.0; to = d.1 }) f e); lies = tt }
+  excl_value (Some e) q r = record { reads = ((sym q, r.0), r.1); lies = tt }
+
+  pub incl_value : (o : Option Range) → k ≡ kind.Incl → ReadsEndsAs bs o → ReadsValueAs k bs buffer (option_map (λ r. value.Incl r) o)
+  incl_value None q r = record { reads = none_of _ _ kind.Incl k q (λ d f e. r (record { from = d.0; to = d.1 }) f e); lies = tt }
+  incl_value (Some e) q r = record { reads = ((sym q, r.0), r.1); lies = tt }

@@ -1,11 +1,12 @@
 -- Reading is the inverse of writing, both ways: what is read is written so, and what is not read is how nothing is written.
 -- Assumes nothing.
-use Rattle.std.specs.Prelude.{◌≡◌, ℕ, ◌<◌, ◌≤◌, true, not, T, List, ◌∷◌, ◌++◌, length, Some, None, Option, FitsSigned, ◌≢◌, is_nan, slice_index, Float}
+use Rattle.std.specs.Prelude.{◌≡◌, ℕ, ◌<◌, ◌≤◌, true, not, T, List, ◌∷◌, ◌++◌, length, Some, None, Option, Ok, Err, Result, FitsSigned, ◌≢◌, is_nan, slice_index, Float}
 use Rattle.std.specs.Float.{binary64}
 use Rattle.std.specs.Float.Ieee.{fits}
 use Rattle.std.proofs.Math.Utf8.{encode, scalar}
 use Rattle.std.specs.Int.{w64}
 use Rattle.std.specs.Fmt.{signed_decimal}
+use Rattle.std.specs.Str.{IsUtf8}
 use Rattle.std.specs.List.{AllByRecursion}
 use Rattle.std.specs.Option.{option_map}
 use Rattle.text.specs.Buffers.{span_text, within}
@@ -30,6 +31,11 @@ ReadsAs Of writing bs (Some v) = Of v × (writing v ≡ bs)
 -- no plus, and no zero in front of a digit or behind a minus
 abbrev pub Short : List ℕ → Type 0
 Short bs = (slice_index bs 0 ≢ 43) × (slice_index bs 0 ≡ 48 → length bs ≡ 1) × (slice_index bs 0 ≡ 45 → slice_index bs 1 ≢ 48)
+
+-- n is what a parse gives of bs, which is short, or there is none where bs is short and text
+abbrev pub ParsesShort : {V E : Type 0} → (List ℕ → Result V E → Type 0) → List ℕ → Option V → Type 0
+ParsesShort gives bs None = Short bs → IsUtf8 bs → (e : _) × gives bs (Err e)
+ParsesShort gives bs (Some n) = Short bs × gives bs (Ok n)
 
 -- a float that is no NaN
 abbrev pub Number : Float → Type 0

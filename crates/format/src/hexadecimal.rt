@@ -3,6 +3,7 @@ ghost use Rattle.std.specs.Prelude.{◌≡◌, ℕ, ◌^◌, ◌<◌, ◌≤◌,
 ghost use Rattle.format.specs.Written.{figure, figures, pairs};
 ghost use Rattle.format.specs.Reading.{Reads, ReadsAs, Bytes};
 
+// Not `char::to_digit`, which takes upper case too.
 fn hex_digit(b: u8) -> Option<u8>
     ensures { MatchOption result ((d : ℕ) → d < 16 → figure d ≢ b) (λ d. (d < 16) × (figure d ≡ b)) }
 {
@@ -22,10 +23,7 @@ pub fn read_bits(bytes: &[u8]) -> Option<u64>
     }
     let mut n: u64 = 0;
     for b in bytes {
-        let Some(d) = hex_digit(*b) else {
-            return None;
-        };
-        n = n * 16 + u64::from(d);
+        n = n * 16 + u64::from(hex_digit(*b)?);
     }
     Some(n)
 }
@@ -34,18 +32,14 @@ pub fn read_bits(bytes: &[u8]) -> Option<u64>
 pub fn read_pairs(bytes: &[u8], out: &mut [u8]) -> Option<usize>
     ensures { MatchOption result ((vs : List ℕ) → Bytes vs → length vs ≤ length out.old → pairs vs ≢ bytes.now) (λ n. (n ≤ length out.new) × (pairs (take n out.new) ≡ bytes.now) × (drop n out.new ≡ drop n out.old)) }
 {
-    let n = bytes.len() / 2;
-    if bytes.len() % 2 != 0 || n > out.len() {
+    let (digits, []) = bytes.as_chunks::<2>() else {
+        return None;
+    };
+    if digits.len() > out.len() {
         return None;
     }
-    for i in 0..n {
-        let Some(high) = hex_digit(bytes[2 * i]) else {
-            return None;
-        };
-        let Some(low) = hex_digit(bytes[2 * i + 1]) else {
-            return None;
-        };
-        out[i] = high * 16 + low;
+    for (i, [high, low]) in digits.iter().enumerate() {
+        out[i] = hex_digit(*high)? * 16 + hex_digit(*low)?;
     }
-    Some(n)
+    Some(digits.len())
 }

@@ -5,9 +5,10 @@ ghost use Rattle.std.proofs.Math.Utf8.{encode, scalar};
 ghost use Rattle.format.specs.Reading.{Reads, ReadsAs, Number, ReadsEnds, ReadsEndsAs, ReadsText, ReadsValue, ReadsValueAs};
 ghost use Rattle.format.specs.Written.{floated};
 
-use crate::cuts::{cut_at, same};
+use crate::cuts::cut_at;
 use crate::hexadecimal::{read_bits, read_pairs};
 use crate::numbers::read_int;
+use std::str::from_utf8;
 use text::{Span, is_utf8, part};
 use value::{Kind, Range, Value};
 
@@ -16,9 +17,7 @@ pub fn read_float(bytes: &[u8]) -> Option<f64>
     ensures reads { Reads Number floated bytes.now result }
     ensures exact { ReadsAs Number floated bytes.now result }
 {
-    let Some(bits) = read_bits(bytes) else {
-        return None;
-    };
+    let bits = read_bits(bytes)?;
     if bits % 0x8000_0000_0000_0000 > 0x7ff0_0000_0000_0000 {
         return None;
     }
@@ -41,17 +40,8 @@ pub fn read_char(bytes: &[u8]) -> Option<char>
     ensures reads { Reads (λ c. scalar c ≡ true) encode bytes.now result }
     ensures exact { ReadsAs (λ c. scalar c ≡ true) encode bytes.now result }
 {
-    let Ok(text) = std::str::from_utf8(bytes) else {
-        return None;
-    };
-    let Some(c) = text.chars().next() else {
-        return None;
-    };
-    if c.len_utf8() == bytes.len() {
-        Some(c)
-    } else {
-        None
-    }
+    let c = from_utf8(bytes).ok()?.chars().next()?;
+    (c.len_utf8() == bytes.len()).then_some(c)
 }
 
 // Two ends with a comma between.
@@ -60,15 +50,9 @@ pub fn read_range(bytes: &[u8]) -> Option<Range>
     ensures exact { ReadsEndsAs bytes.now result }
 {
     let ends = cut_at(bytes, b',');
-    let Some(rest) = ends.rest else {
-        return None;
-    };
-    let Some(from) = read_int(ends.first) else {
-        return None;
-    };
-    let Some(to) = read_int(rest) else {
-        return None;
-    };
+    let rest = ends.rest?;
+    let from = read_int(ends.first)?;
+    let to = read_int(rest)?;
     Some(Range { from, to })
 }
 
@@ -76,9 +60,7 @@ pub fn read_range(bytes: &[u8]) -> Option<Range>
 fn read_text(bytes: &[u8], buffer: &mut [u8]) -> Option<Span>
     ensures { ReadsText bytes.now buffer.new result }
 {
-    let Some(len) = read_pairs(bytes, buffer) else {
-        return None;
-    };
+    let len = read_pairs(bytes, buffer)?;
     Some(Span { start: 0, len })
 }
 
@@ -88,58 +70,24 @@ pub fn read_value(kind: Kind, bytes: &[u8], buffer: &mut [u8]) -> Option<Value<S
     ensures exact { ReadsValueAs kind bytes.now buffer.new result }
 {
     match kind {
-        Kind::Unit => {
-            if !same(bytes, b"") {
-                return None;
-            }
-            Some(Value::Unit)
-        }
-        Kind::Bool => {
-            if same(bytes, b"true") {
-                return Some(Value::Bool(true));
-            }
-            if same(bytes, b"false") {
-                return Some(Value::Bool(false));
-            }
-            None
-        }
-        Kind::Int => match read_int(bytes) {
-            Some(n) => Some(Value::Int(n)),
-            None => None,
+        Kind::Unit => bytes.is_empty().then_some(Value::Unit),
+        Kind::Bool => match bytes {
+            b"true" => Some(Value::Bool(true)),
+            b"false" => Some(Value::Bool(false)),
+            _ => None,
         },
-        Kind::Float => match read_float(bytes) {
-            Some(x) => Some(Value::Float(x)),
-            None => None,
-        },
+        Kind::Int => read_int(bytes).map(Value::Int),
+        Kind::Float => read_float(bytes).map(Value::Float),
         Kind::Char => {
-            let Some(span) = read_text(bytes, buffer) else {
-                return None;
-            };
-            match read_char(part(buffer, span)) {
-                Some(c) => Some(Value::Char(c)),
-                None => None,
-            }
+            let span = read_text(bytes, buffer)?;
+            read_char(part(buffer, span)).map(Value::Char)
         }
         Kind::Str => {
-            let Some(span) = read_text(bytes, buffer) else {
-                return None;
-            };
-            if !is_utf8(part(buffer, span)) {
-                return None;
-            }
-            Some(Value::Str(span))
+            let span = read_text(bytes, buffer)?;
+            is_utf8(part(buffer, span)).then_some(Value::Str(span))
         }
-        Kind::Blob => match read_text(bytes, buffer) {
-            Some(span) => Some(Value::Blob(span)),
-            None => None,
-        },
-        Kind::Excl => match read_range(bytes) {
-            Some(r) => Some(Value::Excl(r)),
-            None => None,
-        },
-        Kind::Incl => match read_range(bytes) {
-            Some(r) => Some(Value::Incl(r)),
-            None => None,
-        },
+        Kind::Blob => read_text(bytes, buffer).map(Value::Blob),
+        Kind::Excl => read_range(bytes).map(Value::Excl),
+        Kind::Incl => read_range(bytes).map(Value::Incl),
     }
 }

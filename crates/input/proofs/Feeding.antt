@@ -1,17 +1,15 @@
 -- Lines out of a chunk, one after another: what is left of it gives the whole.
-use Rattle.std.proofs.Common.{◌≡◌, ℕ, List, [], ◌∷◌, Some, Option, sym, refl, ap, ◌∙◌, subst}
+use Rattle.std.proofs.Common.{◌≡◌, ℕ, suc, ◌<◌, List, [], ◌∷◌, length, Some, None, Option, Bor, sym, refl, ap, ◌∙◌, subst, arith}
 use Rattle.std.specs.List.{FoldsTo}
-use Rattle.format.specs.Fields.{fields}
+use Rattle.format.specs.Fields.{fields, fields_of}
 use Rattle.format.proofs.Laws.{some_fields}
+use Rattle.format.proofs.Ranges.{shorter}
 use Rattle.input.specs.Lines.{longer, ended, behind, Fed}
 
 -- what the parts `fs` still give, after `a` and `b`, is what `gs` give after `a₀` and `b₀`
 pub record Leaves {A : Type 0} (answers : A → Option (List ℕ) → A → Type 0) (room : ℕ) (a : A) (b : Option (List ℕ)) (fs : List (List ℕ)) (a₀ : A) (b₀ : Option (List ℕ)) (gs : List (List ℕ)) : Type 0 where
   pub lines : (t : A) → FoldsTo answers a (ended room b fs) t → FoldsTo answers a₀ (ended room b₀ gs) t
   pub rest : behind room b fs ≡ behind room b₀ gs
-
-pub all_left : {A : Type 0} (answers : A → Option (List ℕ) → A → Type 0) (room : ℕ) (a : A) (b : Option (List ℕ)) (fs : List (List ℕ)) → Leaves answers room a b fs a b fs
-all_left answers room a b fs = record { lines = λ t h. h; rest = refl }
 
 ended_more : (room : ℕ) (b : Option (List ℕ)) (f g : List ℕ) (fs : List (List ℕ)) → ended room b (f ∷ g ∷ fs) ≡ longer room b f ∷ ended room (Some []) (g ∷ fs)
 unfolding ended
@@ -29,22 +27,30 @@ behind_last : (room : ℕ) (b : Option (List ℕ)) (f : List ℕ) → behind roo
 unfolding behind
 behind_last room b f = refl
 
-module _ {A : Type 0} (answers : A → Option (List ℕ) → A → Type 0) (room : ℕ) (a : A) (b : Option (List ℕ)) (bytes : List ℕ) (a₀ : A) (b₀ : Option (List ℕ)) (chunk f : List ℕ) (left : Leaves answers room a b (fields 10 bytes) a₀ b₀ (fields 10 chunk)) where
+module _ {A : Type 0} (answers : A → Option (List ℕ) → A → Type 0) (room : ℕ) (a : A) (b : Option (List ℕ)) (f : List ℕ) (a₀ : A) (b₀ : Option (List ℕ)) (gs : List (List ℕ)) where
   -- a line ends with the part f
-  pub one_less : (a₁ : A) (more : List ℕ) → fields 10 bytes ≡ f ∷ fields 10 more → answers a (longer room b f) a₁ → Leaves answers room a₁ (Some []) (fields 10 more) a₀ b₀ (fields 10 chunk)
-  one_less a₁ more e h =
+  pub one_less : (a₁ : A) (more : List ℕ) → Leaves answers room a b (f ∷ fields 10 more) a₀ b₀ gs → answers a (longer room b f) a₁ → Leaves answers room a₁ (Some []) (fields 10 more) a₀ b₀ gs
+  one_less a₁ more left h =
       let s = some_fields 10 more in
-      let all : fields 10 bytes ≡ f ∷ s.first ∷ s.more = e ∙ ap (λ fs. f ∷ fs) s.are in
-      let step : ended room b (fields 10 bytes) ≡ longer room b f ∷ ended room (Some []) (fields 10 more) =
-      ap (ended room b) all ∙ ended_more room b f s.first s.more ∙ ap (λ fs. longer room b f ∷ ended room (Some []) fs) (sym s.are) in
+      let step : ended room b (f ∷ fields 10 more) ≡ longer room b f ∷ ended room (Some []) (fields 10 more) =
+      ap (λ fs. ended room b (f ∷ fs)) s.are ∙ ended_more room b f s.first s.more ∙ ap (λ fs. longer room b f ∷ ended room (Some []) fs) (sym s.are) in
       record {
         lines = λ t k. left.lines t (subst (λ ls. FoldsTo answers a ls t) (sym step) (a₁, h, k));
-        rest = ap (behind room (Some [])) s.are ∙ sym (behind_more room b f s.first s.more) ∙ ap (behind room b) (sym all) ∙ left.rest;
+        rest = ap (behind room (Some [])) s.are ∙ sym (behind_more room b f s.first s.more) ∙ ap (λ fs. behind room b (f ∷ fs)) (sym s.are) ∙ left.rest;
       }
 
-  -- no line ends any more
-  pub none_left : (b' : Option (List ℕ)) → fields 10 bytes ≡ f ∷ [] → b' ≡ longer room b f → Fed answers room a₀ b₀ chunk a b'
-  none_left b' e is = record {
-    lines = left.lines a (subst (λ ls. FoldsTo answers a ls a) (sym (ap (ended room b) e ∙ ended_last room b f)) refl);
-    rest = is ∙ sym (behind_last room b f) ∙ ap (behind room b) (sym e) ∙ left.rest;
-  }
+-- no line ends any more
+pub none_left : {A : Type 0} (answers : A → Option (List ℕ) → A → Type 0) (room : ℕ) (a : A) (b : Option (List ℕ)) (f : List ℕ) (a₀ : A) (b₀ : Option (List ℕ)) (chunk : List ℕ) (b' : Option (List ℕ)) → Leaves answers room a b (f ∷ []) a₀ b₀ (fields 10 chunk) → b' ≡ longer room b f → Fed answers room a₀ b₀ chunk a b'
+none_left answers room a b f a₀ b₀ chunk b' left is = record {
+  lines = left.lines a (subst (λ ls. FoldsTo answers a ls a) (sym (ended_last room b f)) refl);
+  rest = is ∙ sym (behind_last room b f) ∙ left.rest;
+}
+
+-- how much is left behind a cut
+abbrev pub behind_cut : Option (Bor (List ℕ)) → ℕ
+behind_cut None = 0
+behind_cut (Some r) = suc (length r.now)
+
+pub less_behind : (bytes f : List ℕ) (o : Option (Bor (List ℕ))) → fields 10 bytes ≡ f ∷ fields_of 10 o → behind_cut o < suc (length bytes)
+less_behind bytes f None e = omega arith
+less_behind bytes f (Some r) e = let s = shorter 10 bytes f r.now e in omega arith

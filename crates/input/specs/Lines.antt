@@ -1,18 +1,13 @@
 -- Lines out of parts that come one after another: what stands before a line feed ends a line, and what stands behind the last one
 -- begins the next. A line is its bytes, or none where it is longer than the buffer that keeps it. Assumes nothing.
-use Rattle.std.specs.Prelude.{◌≡◌, ℕ, ◌+◌, ◌≤◌, cond, List, [], ◌∷◌, ◌++◌, length, take, Some, None, Option, nat_le}
+use Rattle.std.specs.Prelude.{◌≡◌, ℕ, ◌+◌, cond, List, [], ◌∷◌, ◌++◌, length, take, Some, None, Option, nat_le}
 use Rattle.std.specs.List.{FoldsTo}
 use Rattle.format.specs.Fields.{fields}
-use Rattle.input.specs.declared.begun.Begun.{Begun}
-use Rattle.input.specs.declared.begun.Begun.TheVariants.{Kept, Over}
 
-abbrev pub begun : List ℕ → Begun → Option (List ℕ)
-begun buffer (Kept n) = Some (take n buffer)
-begun buffer Over = None
-
-abbrev pub Inside : ℕ → Begun → Type 0
-Inside room (Kept n) = n ≤ room
-Inside room Over = Unit {0}
+-- what has come of a line: so many bytes of the buffer, or more than it holds
+abbrev pub begun : List ℕ → Option ℕ → Option (List ℕ)
+begun buffer None = None
+begun buffer (Some n) = Some (take n buffer)
 
 -- with one more part, where there is room for it
 abbrev pub longer : ℕ → Option (List ℕ) → List ℕ → Option (List ℕ)

@@ -4,5 +4,5 @@
 pub mod begun;
 pub mod reading;
 
-pub use begun::Begun;
-pub use reading::{Answerer, feed, serve};
+pub use begun::Line;
+pub use reading::{Answerer, serve};

@@ -1,95 +1,60 @@
 // Handing lines on as they come.
-ghost use Rattle.std.specs.Prelude.{◌≡◌, ℕ, List, length, IfOk, Some, None, Option};
-ghost use Rattle.input.specs.Lines.{begun, Inside, longer, Fed};
+ghost use Rattle.std.specs.Prelude.{◌≡◌, List, [], ℕ, length, OnOk, Some, None, Option};
+ghost use Rattle.input.specs.Lines.{begun, longer, Fed};
 
-use crate::begun::{Begun, add};
+use crate::begun::Line;
 use format::cuts::cut_at;
 use std::io;
 use std::io::{Read, Write};
 
-// Who answers lines, as long as it is ready.
+// Who answers lines.
 pub trait Answerer {
-    ghost ready: { Self → Type 0 };
-
     // what answering a line makes of it; None is a line that is too long to be kept
     ghost answers: { Self → Option (List ℕ) → Self → Type 0 };
 
     fn answer<W: Write>(&mut self, line: &[u8], out: &mut W) -> io::Result<()>
-        requires { ready self.old }
-        ensures answers { answers self.old (Some line.now) self.new }
-        ensures ready { ready self.new };
+        ensures { answers self.old (Some line.now) self.new };
 
     // Answers a line that is too long to be kept.
     fn refuse<W: Write>(&mut self, out: &mut W) -> io::Result<()>
-        requires { ready self.old }
-        ensures answers { answers self.old None self.new }
-        ensures ready { ready self.new };
+        ensures { answers self.old None self.new };
 }
 
-// Hands on a line whose end has come.
-fn end_line<A: Answerer, W: Write>(
-    line: Begun,
-    buffer: &[u8],
-    answerer: &mut A,
-    out: &mut W,
-) -> io::Result<()>
-    requires inside { Inside (length buffer.now) line }
-    requires ready { A.ready answerer.old }
-    ensures answers { A.answers answerer.old (begun buffer.now line) answerer.new }
-    ensures ready { A.ready answerer.new }
-{
-    match line {
-        Begun::Kept(len) => answerer.answer(&buffer[0..len], out),
-        Begun::Over => answerer.refuse(out),
-    }
-}
-
-// Hands on the line that has begun and ends with the part; most lines have not begun before, and are not copied.
-fn hand_on<A: Answerer, W: Write>(
-    line: Begun,
-    part: &[u8],
-    buffer: &mut [u8],
-    answerer: &mut A,
-    out: &mut W,
-) -> io::Result<()>
-    requires inside { Inside (length buffer.old) line }
-    requires ready { A.ready answerer.old }
-    ensures answers { A.answers answerer.old (longer (length buffer.old) (begun buffer.old line) part.now) answerer.new }
-    ensures ready { A.ready answerer.new }
-{
-    match line {
-        Begun::Kept(0) if part.len() <= buffer.len() => answerer.answer(part, out),
-        _ => {
-            let whole = add(line, part, buffer);
-            end_line(whole, buffer, answerer, out)
+impl Line<'_> {
+    // Hands on the line that ends with the part; most lines have not begun before, and are not copied.
+    fn hand_on<A: Answerer, W: Write>(
+        &mut self,
+        part: &[u8],
+        answerer: &mut A,
+        out: &mut W,
+    ) -> io::Result<()>
+        ensures answers { A.answers answerer.old (longer (length self.old.buffer.now) (begun self.old.buffer.now self.old.len) part.now) answerer.new }
+        ensures next { begun self.new.buffer.now self.new.len ≡ Some [] }
+        ensures room { length self.new.buffer.now ≡ length self.old.buffer.now }
+    {
+        if self.len == Some(0) && part.len() <= self.buffer.len() {
+            return answerer.answer(part, out);
         }
+        self.add(part);
+        self.end(answerer, out)
     }
-}
 
-// Hands on every line that ends in the chunk, after what has begun before it, and gives the line that has begun then.
-pub fn feed<A: Answerer, W: Write>(
-    first: Begun,
-    chunk: &[u8],
-    buffer: &mut [u8],
-    answerer: &mut A,
-    out: &mut W,
-) -> io::Result<Begun>
-    requires inside { Inside (length buffer.old) first }
-    requires ready { A.ready answerer.old }
-    ensures fed { IfOk result (λ b. Fed A.answers (length buffer.old) answerer.old (begun buffer.old first) chunk.now answerer.new (begun buffer.new b)) }
-    ensures inside { IfOk result (λ b. Inside (length buffer.new) b) }
-    ensures ready { A.ready answerer.new }
-{
-    let mut line = first;
-    let mut rest = chunk;
-    loop {
-        let cut = cut_at(rest, b'\n');
-        let Some(more) = cut.rest else {
-            return Ok(add(line, cut.first, buffer));
-        };
-        hand_on(line, cut.first, buffer, answerer, out)?;
-        line = Begun::Kept(0);
-        rest = more;
+    // Hands on every line that ends in the chunk, after what has begun before it, and keeps what begins behind the last.
+    pub fn feed<A: Answerer, W: Write>(
+        &mut self,
+        chunk: &[u8],
+        answerer: &mut A,
+        out: &mut W,
+    ) -> io::Result<()>
+        ensures { OnOk result (Fed A.answers (length self.old.buffer.now) answerer.old (begun self.old.buffer.now self.old.len) chunk.now answerer.new (begun self.new.buffer.now self.new.len)) }
+    {
+        let mut cut = cut_at(chunk, b'\n');
+        while let Some(rest) = cut.rest {
+            self.hand_on(cut.first, answerer, out)?;
+            cut = cut_at(rest, b'\n');
+        }
+        self.add(cut.first);
+        Ok(())
     }
 }
 
@@ -101,22 +66,18 @@ pub fn serve<R: Read, A: Answerer, W: Write>(
     buffer: &mut [u8],
     answerer: &mut A,
     out: &mut W,
-) -> io::Result<()>
-    requires { A.ready answerer.old }
-    ensures { A.ready answerer.new }
-{
-    let mut line = Begun::Kept(0);
+) -> io::Result<()> {
+    let mut line = Line::new(buffer);
     for _ in 0..u64::MAX {
         let n = input.read(chunk)?;
         if n == 0 {
             break;
         }
-        line = feed(line, &chunk[0..n], buffer, answerer, out)?;
+        line.feed(&chunk[..n], answerer, out)?;
         out.flush()?;
     }
-    match line {
-        Begun::Kept(0) => {}
-        _ => end_line(line, buffer, answerer, out)?,
+    if line.len != Some(0) {
+        line.end(answerer, out)?;
     }
     out.flush()
 }

@@ -1,5 +1,5 @@
 -- A command by the call that it stands for. Assumes nothing.
-use Rattle.std.specs.Prelude.{◌≡◌, ℕ, ◌≤◌, List, length, Some, None, Ok, Err, Option, Result}
+use Rattle.std.specs.Prelude.{◌≡◌, ℕ, List, length, Ok, Err, Result}
 use Rattle.fault.specs.Refusals.{bind, refusal}
 use Rattle.fault.specs.declared.Fault.{Fault}
 use Rattle.fault.specs.declared.Refusal.{Refusal}
@@ -12,7 +12,7 @@ use Rattle.desk.specs.Desks.{Served}
 use Rattle.desk.specs.declared.call.Reply.{Reply}
 use Rattle.line.specs.declared.command.Command.{Command}
 use Rattle.line.specs.declared.command.Command.TheVariants.{Post, Clear, Add, Check, Run}
-use Rattle.line.specs.Forms.{Spelled, post, clear, check, run, put, slot, local, keep, op, set, line_form}
+use Rattle.line.specs.Forms.{line_form}
 use Rattle.line.specs.Asked.{unlimited, Asks}
 
 abbrev pub commanded : List ℕ → Command → Event
@@ -36,23 +36,6 @@ PostsInside buffer Run = Unit {0}
 abbrev pub InsideIfOk : List ℕ → Result Command Fault → Type 0
 InsideIfOk buffer (Ok c) = PostsInside buffer c
 InsideIfOk buffer (Err f) = Unit {0}
-
--- the field of a value has at most n bytes
-abbrev pub ShortValue : ℕ → Spelled → Type 0
-ShortValue n (post s k v) = length v ≤ n
-ShortValue n clear = Unit {0}
-ShortValue n check = Unit {0}
-ShortValue n run = Unit {0}
-ShortValue n (put k v) = length v ≤ n
-ShortValue n (slot s) = Unit {0}
-ShortValue n (local i) = Unit {0}
-ShortValue n (keep i) = Unit {0}
-ShortValue n (op o) = Unit {0}
-ShortValue n (set o i) = Unit {0}
-
-abbrev pub ShortIfSome : ℕ → Option Spelled → Type 0
-ShortIfSome n None = Unit {0}
-ShortIfSome n (Some f) = ShortValue n f
 
 -- ---- a line at a desk
 

@@ -19,11 +19,11 @@ pub data Spelled : Type 0 where
   set : List ℕ → List ℕ → Spelled
 
 abbrev pub spelled : Form → Spelled
-spelled (form.Post s k v) = post s.now k.now v.now
+spelled (form.Post s k v) = post s.now k.now v.bytes.now
 spelled form.Clear = clear
 spelled form.Check = check
 spelled form.Run = run
-spelled (form.Put k v) = put k.now v.now
+spelled (form.Put k v) = put k.now v.bytes.now
 spelled (form.Slot s) = slot s.now
 spelled (form.Local i) = local i.now
 spelled (form.Keep i) = keep i.now

@@ -14,9 +14,8 @@ pub fn answer_of(reply: Result<Reply, Refusal>, work: &[u8]) -> Answer<'_>
     requires { WithinWork work.now reply }
     ensures { shown_answer result ≡ shown_said (meant_by work.now reply) }
 {
-    match reply {
-        Ok(Reply::Value(value)) => Answer::Gives(Shown(lend(value, work))),
-        Ok(_) => Answer::Done,
-        Err(refusal) => Answer::Refused(refusal),
-    }
+    Answer(reply.map(|reply| match reply {
+        Reply::Value(value) => Some(Shown(lend(value, work))),
+        _ => None,
+    }))
 }

@@ -2,8 +2,8 @@
 ghost use Rattle.std.specs.Prelude.{◌≡◌};
 ghost use Rattle.line.specs.Forms.{spelled_by, alone, add_one, add_two, with_three, line_form};
 
-use crate::form::Form;
-use format::cuts::{cut_at, same};
+use crate::form::{Field, Form};
+use format::cuts::cut_at;
 
 const MOST: usize = 4096;
 
@@ -12,48 +12,39 @@ const TAB: u8 = b'\t';
 fn alone<'a>(verb: &[u8]) -> Option<Form<'a>>
     ensures { spelled_by result ≡ alone verb.now }
 {
-    if same(verb, b"clear") {
-        Some(Form::Clear)
-    } else if same(verb, b"check") {
-        Some(Form::Check)
-    } else if same(verb, b"run") {
-        Some(Form::Run)
-    } else {
-        None
+    match verb {
+        b"clear" => Some(Form::Clear),
+        b"check" => Some(Form::Check),
+        b"run" => Some(Form::Run),
+        _ => None,
     }
 }
 
 fn add_one<'a>(step: &[u8], field: &'a [u8]) -> Option<Form<'a>>
     ensures { spelled_by result ≡ add_one step.now field.now }
 {
-    if same(step, b"slot") {
-        Some(Form::Slot(field))
-    } else if same(step, b"local") {
-        Some(Form::Local(field))
-    } else if same(step, b"keep") {
-        Some(Form::Keep(field))
-    } else if same(step, b"op") {
-        Some(Form::Op(field))
-    } else {
-        None
+    match step {
+        b"slot" => Some(Form::Slot(field)),
+        b"local" => Some(Form::Local(field)),
+        b"keep" => Some(Form::Keep(field)),
+        b"op" => Some(Form::Op(field)),
+        _ => None,
     }
 }
 
-fn add_two<'a>(step: &[u8], first: &'a [u8], second: &'a [u8]) -> Option<Form<'a>>
-    ensures { spelled_by result ≡ add_two step.now first.now second.now }
+fn add_two<'a>(step: &[u8], first: &'a [u8], second: Field<'a>) -> Option<Form<'a>>
+    ensures { spelled_by result ≡ add_two step.now first.now second.entry.bytes.now }
 {
-    if same(step, b"put") {
-        Some(Form::Put {
+    match step {
+        b"put" => Some(Form::Put {
             kind: first,
             value: second,
-        })
-    } else if same(step, b"set") {
-        Some(Form::Set {
+        }),
+        b"set" => Some(Form::Set {
             op: first,
-            local: second,
-        })
-    } else {
-        None
+            local: second.bytes,
+        }),
+        _ => None,
     }
 }
 
@@ -61,20 +52,18 @@ fn with_three<'a>(
     verb: &[u8],
     first: &'a [u8],
     second: &'a [u8],
-    third: &'a [u8],
+    third: Field<'a>,
 ) -> Option<Form<'a>>
-    ensures { spelled_by result ≡ with_three verb.now first.now second.now third.now }
+    ensures { spelled_by result ≡ with_three verb.now first.now second.now third.entry.bytes.now }
 {
-    if same(verb, b"post") {
-        Some(Form::Post {
+    match verb {
+        b"post" => Some(Form::Post {
             slot: first,
             kind: second,
             value: third,
-        })
-    } else if same(verb, b"add") {
-        add_two(first, second, third)
-    } else {
-        None
+        }),
+        b"add" => add_two(first, second, third),
+        _ => None,
     }
 }
 
@@ -90,20 +79,17 @@ pub fn read_form<'a>(line: &'a [u8]) -> Option<Form<'a>>
         return alone(verb.first);
     };
     let first = cut_at(rest, TAB);
-    let Some(rest) = first.rest else {
-        return None;
-    };
-    let second = cut_at(rest, TAB);
+    let second = cut_at(first.rest?, TAB);
     let Some(rest) = second.rest else {
-        return if same(verb.first, b"add") {
-            add_one(first.first, second.first)
-        } else {
-            None
+        return match verb.first {
+            b"add" => add_one(first.first, second.first),
+            _ => None,
         };
     };
     let third = cut_at(rest, TAB);
     if third.rest.is_some() {
         return None;
     }
-    with_three(verb.first, first.first, second.first, third.first)
+    let third = Field { bytes: third.first };
+    with_three(verb.first, first.first, second.first, third)
 }

@@ -5,7 +5,7 @@ ghost use Rattle.desk.specs.Desks.{WithinWork};
 ghost use Rattle.line.specs.Commands.{commanded, PostsInside, LineServed};
 
 use crate::command::Command;
-use crate::commands::read_line;
+use crate::commands::{Scratch, read_line};
 use desk::{Call, Desk, Reply};
 use fault::Refusal;
 use routines::Limits;
@@ -35,14 +35,12 @@ impl Command {
 pub fn serve_line<S: Shelf>(
     desk: &mut Desk<S>,
     line: &[u8],
-    scratch: &mut [u8; 2048],
+    scratch: &mut Scratch,
     work: &mut [u8],
 ) -> Result<Reply, Refusal>
     ensures served { LineServed line.now (S.slots desk.old.shelf) desk.old.rule work.old result work.new (S.slots desk.new.shelf) desk.new.rule }
     ensures within { WithinWork work.new result }
 {
-    match read_line(line, scratch) {
-        Ok(command) => desk.serve(command.call(scratch), work),
-        Err(fault) => Err(fault.into()),
-    }
+    let command = read_line(line, scratch)?;
+    desk.serve(command.call(scratch), work)
 }

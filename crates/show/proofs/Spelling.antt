@@ -1,78 +1,84 @@
--- Hexadecimal digits as they are printed: two of each byte, sixteen of a number; and printing one thing after another.
-use Rattle.std.proofs.Common.{◌≡◌, ℕ, zero, suc, ◌+◌, ◌/◌, ◌%◌, ◌<◌, List, [], ◌∷◌, ◌++◌, length, get_or, take, sym, refl, ap, ◌∙◌, subst, append_assoc, arith}
+-- Hexadecimal digits as they are printed: two of each byte, sixteen of a number.
+use Rattle.std.proofs.Common.{◌≡◌, ℕ, replicate, lit≤, eq-eqb, ◌*◌, ◌≤◌, zero, suc, ◌+◌, ◌-◌, ◌/◌, ◌%◌, ◌^◌, ◌<◌, Bool, true, false, cond, eqb, List, [], ◌∷◌, ◌++◌, length, get_or, take, Some, Option, Result, Bor, codes, sym, refl, ap, ◌∙◌, subst, append_assoc, append-nil, pow-suc, arith}
+use native.Mathlib.Nat.{sub-zero}
+use Rattle.std.specs.Fmt.{digits, digits_onto, shown_prefix, radix_prefix, padded_integral, format_spec, char_count, DisplaysOnOk, WritesOnOk}
+use Rattle.std.specs.Option.{option_map}
 use Rattle.std.specs.declared.fmt.Formatter.{Formatter}
-use Rattle.std.specs.List.{concat, FoldsTo}
-use Rattle.std.specs.Fmt.{WritesInCalls, HasWritten}
-use native.Mathlib.Nat.{div-div-eq-div-mul}
-use lib.Utf8.{encode}
-use Rattle.std.proofs.lemmas.Str.Ascii.{encode_ascii}
+use Rattle.std.specs.declared.fmt.Error.{Error}
+use Rattle.std.proofs.lemmas.Bool.{eqb-true}
 use Rattle.std.proofs.lemmas.List.{take_more}
-use Rattle.std.proofs.lemmas.Bool.Decides.{nat_tests}
+use lib.Ieee.{Float, binary64, to_bits}
+use Rattle.value.specs.Values.{kind_of, meaning}
+use Rattle.value.specs.declared.value.Value.{Value}
+use Rattle.value.specs.declared.value.Value.TheVariants as value
+use Rattle.show.specs.Shown.{shown_value}
+use Rattle.format.specs.Names.{kind_name}
 use Rattle.format.specs.Written.{figure, figures, pairs}
+use Rattle.format.proofs.Hex.{pairs_push}
 
-figure_small : (d : ℕ) → d < 16 → figure d < 128
-figure_small d h = grind (arith, nat_tests)
-
-figure_code : (d n : ℕ) → d < 16 → n ≡ figure d → encode n ≡ figure d ∷ []
-figure_code d n h e = ap encode e ∙ encode_ascii (figure d) (figure_small d h)
-
-pub pair_bytes : (b high low : ℕ) → b < 256 → high ≡ figure (b / 16) → low ≡ figure (b % 16) → encode high ++ encode low ≡ figure (b / 16) ∷ figure (b % 16) ∷ []
-pair_bytes b high low lt p q =
-    let x : encode high ≡ figure (b / 16) ∷ [] = figure_code (b / 16) high (omega arith) p in
-    let y : encode low ≡ figure (b % 16) ∷ [] = figure_code (b % 16) low (omega arith) q in rw (x, y)
-
-pairs_push : (bs : List ℕ) (b : ℕ) → pairs (bs ++ (b ∷ [])) ≡ pairs bs ++ (figure (b / 16) ∷ figure (b % 16) ∷ [])
-pairs_push [] b = refl
-pairs_push (x ∷ bs) b = ap (λ (l : List ℕ). figure (x / 16) ∷ figure (x % 16) ∷ l) (pairs_push bs b)
+-- what a hole with a width and zeros writes of hexadecimal digits
+module _ {W : Type 0} (took : W → List ℕ → W → Type 0) (f : Formatter W) (r : Result (Unit {0}) Error) (g : Formatter W) (base : ℕ) (o : Option (List ℕ)) where
+  pub wrote : (s : _) (width : ℕ) (ds out : List ℕ) → padded_integral (format_spec 32 0 4 width (2 ^ 64 - 1)) false [] ds ≡ out → s ≡ format_spec 32 0 4 width (2 ^ 64 - 1) → o ≡ Some ds → DisplaysOnOk took f r (option_map (padded_integral s false (shown_prefix s (radix_prefix base))) o) g → WritesOnOk took f r out g
+  wrote s width ds out is q e h =
+      let styled : option_map (padded_integral s false (shown_prefix s (radix_prefix base))) o ≡ Some (padded_integral (format_spec 32 0 4 width (2 ^ 64 - 1)) false [] ds) = λ i. option_map (padded_integral (q i) false (shown_prefix (q i) (radix_prefix base))) (e i) in
+      subst (λ x. DisplaysOnOk took f r x g) (styled ∙ ap Some is) h
 
 pub pairs_step : (bs : List ℕ) (i : ℕ) → i < length bs → pairs (take i bs) ++ (figure (get_or bs i 0 / 16) ∷ figure (get_or bs i 0 % 16) ∷ []) ≡ pairs (take (i + 1) bs)
 pairs_step bs i lt = sym (pairs_push (take i bs) (get_or bs i 0)) ∙ ap pairs (sym (take_more bs i 0 lt))
 
-joined_append : (xs ys : List (List ℕ)) → concat (xs ++ ys) ≡ concat xs ++ concat ys
-joined_append [] ys = refl
-joined_append (x ∷ xs) ys = ap (λ (l : List ℕ). x ++ l) (joined_append xs ys) ∙ sym (append_assoc x (concat xs) (concat ys))
+replicate_push : (k z : ℕ) → replicate k z ++ z ∷ [] ≡ replicate (suc k) z
+replicate_push zero z = refl
+replicate_push (suc k) z = ap (λ l. z ∷ l) (replicate_push k z)
 
-module _ {W : Type 0} (took : W → List ℕ → W → Type 0) where
-  calls_append : (w : W) (xs : List (List ℕ)) (v : W) (ys : List (List ℕ)) (u : W) → FoldsTo took w xs v → FoldsTo took v ys u → FoldsTo took w (xs ++ ys) u
-  calls_append w [] v ys u p q = subst (λ (x : W). FoldsTo took x ys u) (sym p) q
-  calls_append w (x ∷ xs) v ys u p q = (p.0, p.1, calls_append p.0 xs v ys u p.2 q)
+no_figures : (k n : ℕ) → n ≡ 0 → figures k n ≡ replicate k 48
+no_figures zero n e = refl
+no_figures (suc k) n e =
+    let ih : figures k (n / 16) ≡ replicate k 48 = no_figures k (n / 16) (omega arith) in
+    let d : n % 16 ≡ 0 = omega arith in
+    (λ i. ih i ++ figure (d i) ∷ []) ∙ replicate_push k 48
 
-  wrote_more : (w : W) (a : List ℕ) (v : W) (b : List ℕ) (u : W) → WritesInCalls took w a v → WritesInCalls took v b u → WritesInCalls took w (a ++ b) u
-  wrote_more w a v b u p q = record {
-    parts = p.parts ++ q.parts;
-    calls = calls_append w p.parts v q.parts u p.calls q.calls;
-    whole = joined_append p.parts q.parts ∙ (λ i. p.whole i ++ q.whole i);
-  }
+-- digits with zeros in front
+abbrev fill : ℕ → List ℕ → List ℕ
+fill m ds = replicate (m - length ds) 48 ++ ds
 
-  pub put_more : (f : Formatter W) (a : List ℕ) (g : Formatter W) (b : List ℕ) (h : Formatter W) → HasWritten took f a g → HasWritten took g b h → HasWritten took f (a ++ b) h
-  put_more f a g b h p q = record { wrote = wrote_more _ a _ b _ p.wrote q.wrote; plain = q.plain }
+last : (k n : ℕ) (acc : List ℕ) → n / 16 ≡ 0 → figures (suc k) n ++ acc ≡ fill (suc k + length acc) (figure (n % 16) ∷ acc)
+last k n acc e =
+    let m : suc k + length acc - suc (length acc) ≡ k = omega arith in
+    ap (λ l. (l ++ figure (n % 16) ∷ []) ++ acc) (no_figures k (n / 16) e) ∙ append_assoc (replicate k 48) (figure (n % 16) ∷ []) acc
+    ∙ ap (λ j. replicate j 48 ++ figure (n % 16) ∷ acc) (sym m)
 
-  pub put_is : (f : Formatter W) (a b : List ℕ) (g : Formatter W) → a ≡ b → HasWritten took f a g → HasWritten took f b g
-  put_is f a b g e = subst (λ (l : List ℕ). HasWritten took f l g) e
+filled : (k j n : ℕ) (acc : List ℕ) → k ≤ j → n < 16 ^ suc k → figures (suc k) n ++ acc ≡ fill (suc k + length acc) (digits_onto (suc j) 16 false n acc)
+filled zero j n acc le h =
+    let z : n / 16 ≡ 0 = omega arith in
+    let e : eqb (n / 16) 0 ≡ true = eq-eqb (n / 16) 0 z in
+    last zero n acc z ∙ ap (λ b. fill (1 + length acc) (cond b (figure (n % 16) ∷ acc) (digits_onto j 16 false (n / 16) (figure (n % 16) ∷ acc)))) (sym e)
+filled (suc k) zero n acc le h = absurd (omega arith)
+filled (suc k) (suc j) n acc le h =
+    let up : n < 16 ^ suc k * 16 = rw pow-suc at h in
+    let P : Bool → Type 0 = λ b. eqb (n / 16) 0 ≡ b → figures (suc (suc k)) n ++ acc ≡ fill (suc (suc k) + length acc) (cond b (figure (n % 16) ∷ acc) (digits_onto (suc j) 16 false (n / 16) (figure (n % 16) ∷ acc))) in
+    (elim (eqb (n / 16) 0) as P [
+      | true ↦ λ e. last (suc k) n acc (eqb-true (n / 16) 0 e)
+      | false ↦ λ e.
+          let ds = digits_onto (suc j) 16 false (n / 16) (figure (n % 16) ∷ acc) in
+          let m : suc k + suc (length acc) ≡ suc (suc k) + length acc = omega arith in
+          append_assoc (figures (suc k) (n / 16)) (figure (n % 16) ∷ []) acc ∙ filled k j (n / 16) (figure (n % 16) ∷ acc) (omega arith) (omega arith)
+          ∙ ap (λ l. fill l ds) m
+    ]) refl
 
-abbrev twice : ℕ → ℕ
-twice zero = 0
-twice (suc k) = suc (suc (twice k))
+padded_is : (ds : List ℕ) → padded_integral (format_spec 32 0 4 16 (2 ^ 64 - 1)) false [] ds ≡ fill 16 ds
+unfolding padded_integral char_count
+padded_is ds = simp (sub-zero, append-nil)
 
-abbrev bytes : ℕ → ℕ → List ℕ
-bytes zero n = []
-bytes (suc k) n = bytes k (n / 256) ++ (n % 256 ∷ [])
+digits_are : (n : ℕ) → n < 2 ^ 64 → fill 16 (digits 16 false n) ≡ figures 16 n
+unfolding digits
+digits_are n small = sym (filled 15 63 n [] (lit≤ tt) small)
 
-figures_bytes : (k n : ℕ) → pairs (bytes k n) ≡ figures (twice k) n
-figures_bytes zero n = refl
-figures_bytes (suc k) n =
-    let a : n / 256 ≡ n / 16 / 16 = omega arith in
-    let b : n % 256 / 16 ≡ n / 16 % 16 = omega arith in
-    let d : n % 256 % 16 ≡ n % 16 = omega arith in
-    pairs_push (bytes k (n / 256)) (n % 256)
-    ∙ ap (λ (m : ℕ). pairs (bytes k m) ++ (figure (n % 256 / 16) ∷ figure (n % 256 % 16) ∷ [])) a
-    ∙ ap (λ (l : List ℕ). l ++ (figure (n % 256 / 16) ∷ figure (n % 256 % 16) ∷ [])) (figures_bytes k (n / 16 / 16))
-    ∙ ap (λ (m : ℕ). figures (twice k) (n / 16 / 16) ++ (figure m ∷ figure (n % 256 % 16) ∷ [])) b
-    ∙ ap (λ (m : ℕ). figures (twice k) (n / 16 / 16) ++ (figure (n / 16 % 16) ∷ figure m ∷ [])) d
-    ∙ sym (append_assoc (figures (twice k) (n / 16 / 16)) (figure (n / 16 % 16) ∷ []) (figure (n % 16) ∷ []))
+-- what `{:016x}` writes
+pub hex_word : (n : ℕ) → n < 2 ^ 64 → padded_integral (format_spec 32 0 4 16 (2 ^ 64 - 1)) false [] (digits 16 false n) ≡ figures 16 n
+hex_word n small = padded_is (digits 16 false n) ∙ digits_are n small
 
-eight : (n : ℕ) → bytes 8 n ≡ (n / 72057594037927936 % 256) ∷ (n / 281474976710656 % 256) ∷ (n / 1099511627776 % 256) ∷ (n / 4294967296 % 256) ∷ (n / 16777216 % 256) ∷ (n / 65536 % 256) ∷ (n / 256 % 256) ∷ (n % 256) ∷ []
-eight n = simp div-div-eq-div-mul
-
-pub sixteen : (n : ℕ) (bs : List ℕ) → bs ≡ (n / 72057594037927936 % 256) ∷ (n / 281474976710656 % 256) ∷ (n / 1099511627776 % 256) ∷ (n / 4294967296 % 256) ∷ (n / 16777216 % 256) ∷ (n / 65536 % 256) ∷ (n / 256 % 256) ∷ (n % 256) ∷ [] → pairs bs ≡ figures 16 n
-sixteen n bs e = ap pairs (e ∙ sym (eight n)) ∙ figures_bytes 8 n
+-- a float, behind its kind's name
+pub float_shown : (v : Value (Bor (List ℕ))) (x : Float) (name : List ℕ) (n : ℕ) → v ≡ value.Float x → name ≡ kind_name (kind_of v) → n ≡ to_bits binary64 x → (name ++ 9 ∷ []) ++ figures 16 n ≡ shown_value (meaning (λ t. t.now) v)
+float_shown v x name n e q b =
+    let p : name ≡ codes "float" = q ∙ ap (λ w. kind_name (kind_of w)) e in
+    (λ i. (p i ++ 9 ∷ []) ++ figures 16 (b i)) ∙ sym (ap (λ w. shown_value (meaning (λ t. t.now) w)) e)

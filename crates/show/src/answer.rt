@@ -6,25 +6,18 @@ use crate::values::Shown;
 use fault::Refusal;
 use std::fmt;
 
+// A value, where there is one to print, or a refusal.
 #[derive(Clone, Copy)]
-pub enum Answer<'a> {
-    Done,
-    Gives(Shown<'a>),
-    Refused(Refusal),
-}
+pub struct Answer<'a>(pub Result<Option<Shown<'a>>, Refusal>);
 
 impl fmt::Display for Answer<'_> {
     ghost output = { λ a. Some (shown_answer a) };
 
     fn fmt<W: fmt::Write>(&self, f: &mut fmt::Formatter<W>) -> fmt::Result {
-        match *self {
-            Answer::Done => f.write_str("ok"),
-            Answer::Gives(value) => write!(f, "{value}"),
-            Answer::Refused(refusal) => {
-                let number = refusal.fault.number();
-                let place = refusal.place;
-                write!(f, "no\t{number}\t{place}")
-            }
+        match self.0 {
+            Ok(None) => f.write_str("ok"),
+            Ok(Some(value)) => write!(f, "{value}"),
+            Err(refusal) => write!(f, "no\t{}\t{}", u8::from(refusal.fault), refusal.place),
         }
     }
 }

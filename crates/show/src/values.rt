@@ -3,7 +3,8 @@ ghost use Rattle.std.specs.Prelude.{◌≡◌, Some};
 ghost use Rattle.value.specs.Values.{meaning};
 ghost use Rattle.show.specs.Shown.{shown_value};
 
-use crate::digits::{Bits, Pairs};
+use crate::digits::Pairs;
+use format::names::Named;
 use format::values::float_bits;
 use std::fmt;
 use value::Value;
@@ -15,37 +16,18 @@ impl fmt::Display for Shown<'_> {
     ghost output = { λ v. Some (shown_value (meaning (λ x. x.now) v.0)) };
 
     fn fmt<W: fmt::Write>(&self, f: &mut fmt::Formatter<W>) -> fmt::Result {
+        write!(f, "{}\t", self.0.kind().name())?;
         match self.0 {
-            Value::Unit => f.write_str("unit\t"),
-            Value::Bool(b) => write!(f, "bool\t{b}"),
-            Value::Int(n) => write!(f, "int\t{n}"),
-            Value::Float(x) => {
-                let bits = Bits(float_bits(x));
-                write!(f, "float\t{bits}")
-            }
+            Value::Unit => Ok(()),
+            Value::Bool(b) => write!(f, "{b}"),
+            Value::Int(n) => write!(f, "{n}"),
+            Value::Float(x) => write!(f, "{:016x}", float_bits(x)),
             Value::Char(c) => {
                 let mut buffer = [0; 4];
-                let letter = Pairs(c.encode_utf8(&mut buffer).as_bytes());
-                write!(f, "char\t{letter}")
+                write!(f, "{}", Pairs(c.encode_utf8(&mut buffer).as_bytes()))
             }
-            Value::Str(t) => {
-                let text = Pairs(t);
-                write!(f, "str\t{text}")
-            }
-            Value::Blob(t) => {
-                let text = Pairs(t);
-                write!(f, "blob\t{text}")
-            }
-            Value::Excl(r) => {
-                let from = r.from;
-                let to = r.to;
-                write!(f, "excl\t{from},{to}")
-            }
-            Value::Incl(r) => {
-                let from = r.from;
-                let to = r.to;
-                write!(f, "incl\t{from},{to}")
-            }
+            Value::Str(text) | Value::Blob(text) => write!(f, "{}", Pairs(text)),
+            Value::Excl(r) | Value::Incl(r) => write!(f, "{},{}", r.from, r.to),
         }
     }
 }

@@ -1,32 +1,10 @@
-use Rattle.std.proofs.Common.{sym, ◌∙◌, subst, to_z-of_z, w64, SFits, rules}
-use Rattle.std.proofs.lemmas.Bool.{both_ways}
-use Rattle.format.specs.Reading.{Short}
-use Rattle.format.proofs.Decimal.{int_ok, int_err, int_short, int_text}
+use Rattle.std.proofs.Common.{w64}
+use Rattle.std.specs.Str.Parse.{ParsesSigned, ExplainsSignedError, HasSignedDigitsIfOk}
+use Rattle.format.proofs.Decimal.{read_signed, reads_as}
 use Rattle.format.proofs.numbers.read_int.Goals as goal
 
-pub returns-then-not-is_short-clause-exact : goal.returns-then-not-is_short-clause-exact
-returns-then-not-is_short-clause-exact c = λ v f e. both_ways _ c.if-not-is_short.true (c.is_short.ensures.1 (int_short _ v f e))
+pub returns-clause-exact : goal.returns-clause-exact
+returns-clause-exact c = read_signed _ (λ bs r (p : ParsesSigned w64 10 bs r × ExplainsSignedError 10 bs r × HasSignedDigitsIfOk bs r). p.0) c.args.bytes.now c.read.result c.read.ensures
 
-pub returns-in_default-clause-exact : goal.returns-in_default-clause-exact
-returns-in_default-clause-exact c = λ v f e. c.in_default.ensures.cases.0 (int_text _ v f e)
-
-pub returns-in-Ok-parse-clause-exact : goal.returns-in-Ok-parse-clause-exact
-returns-in-Ok-parse-clause-exact c =
-    let f : SFits w64 c.in-Ok-parse.n = search rules in
-    let same = c.in-Ok.ensures.cases.0 in
-    simp to_z-of_z (f, int_ok c.in-Ok.text.now _ c.in-Ok-parse.n c.parse.ensures.value.0 (subst Short (sym same) (c.is_short.ensures.0 c.if-not-is_short.false)) c.in-Ok-parse.is ∙ same)
-
-pub returns-in-Err-clause-exact : goal.returns-in-Err-clause-exact
-returns-in-Err-clause-exact c = λ v f e. int_err _ _ _ _ v f e c.in-Ok.ensures.cases.0 c.parse.ensures.value.0 c.in-Err.is
-
-pub returns-then-not-is_short-clause-reads : goal.returns-then-not-is_short-clause-reads
-returns-then-not-is_short-clause-reads c = returns-then-not-is_short-clause-exact c
-
-pub returns-in_default-clause-reads : goal.returns-in_default-clause-reads
-returns-in_default-clause-reads c = returns-in_default-clause-exact c
-
-pub returns-in-Ok-parse-clause-reads : goal.returns-in-Ok-parse-clause-reads
-returns-in-Ok-parse-clause-reads c = (returns-in-Ok-parse-clause-exact c).1
-
-pub returns-in-Err-clause-reads : goal.returns-in-Err-clause-reads
-returns-in-Err-clause-reads c = returns-in-Err-clause-exact c
+pub returns-clause-reads : goal.returns-clause-reads
+returns-clause-reads c = reads_as _ _ c.args.bytes.now c.read.result (returns-clause-exact c)

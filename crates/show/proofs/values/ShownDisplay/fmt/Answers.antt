@@ -1,12 +1,11 @@
-use Rattle.std.proofs.Common.{◌++◌, codes, sym, ap, ◌∙◌}
-use Rattle.value.specs.Values.{meaning}
-use Rattle.format.specs.Written.{figures}
-use Rattle.show.specs.Shown.{shown_value}
-use Rattle.show.proofs.Spelling.{put_is}
+use Rattle.std.proofs.Common.{refl, ap, ◌∙◌, arith}
+use Rattle.std.proofs.lemmas.Grind.{put_two}
+use Rattle.format.specs.Names.{kind_name}
+use Rattle.show.proofs.Spelling.{hex_word, wrote, float_shown}
 use Rattle.show.proofs.values.ShownDisplay.fmt.Goals as goal
 
 pub returns-in-Float-clause-writes : goal.returns-in-Float-clause-writes
 returns-in-Float-clause-writes g c = λ plain ok.
-    put_is _ _ _ _ _
-    (ap (λ n. codes "float\t" ++ figures 16 n) c.float_bits.ensures ∙ sym (ap (λ v. shown_value (meaning (λ x. x.now) v)) c.in-Float.is))
-    (c.write-in-Float.ensures.writes plain ok)
+    let h = c.in_ok-write.ensures.writes plain refl in
+    let w = wrote _ _ _ _ c.in_radix.result.base _ c.laid_out.result 16 _ _ (hex_word c.float_bits.result (omega arith)) c.laid_out.ensures c.in_radix.ensures c.write-in-Float.ensures.writes h.plain ok in
+    put_two _ _ _ _ _ _ _ h w (float_shown c.args.self.now.0 c.in-Float.x c.name.result.now c.float_bits.result c.in-Float.is (c.name.ensures ∙ ap kind_name c.kind.ensures) c.float_bits.ensures)
