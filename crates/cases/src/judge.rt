@@ -2,15 +2,16 @@
 use crate::case::{Case, Form, read_case};
 use fault::Fault;
 use format::hexadecimal::read_bits;
-use format::names::{assign_named, kind_named, op_named};
+use format::names::{assign_named, first_named, kind_named, op_named};
 use format::numbers::read_int;
 use format::values::read_value;
 use input::Answerer;
-use operators::{apply, apply_assign};
+use operators::{FnAssign, FnBuiltin, apply};
 use routines::{Limits, Made};
 use show::Shown;
 use std::io;
 use std::io::Write;
+use value::op::OPS;
 use value::{Kind, Op, Value, lend};
 
 const MOST: usize = 65536;
@@ -24,33 +25,22 @@ pub struct Judge {
 
 // An operator: one that assigns is written with = behind; one that does not has no row there.
 fn read_op(form: Form, name: &[u8]) -> Result<Op, Fault> {
-    match form {
-        Form::Apply => op_named(name).ok_or(Fault::Unknown),
-        Form::Assign => {
-            if let Some(op) = assign_named(name) {
-                return Ok(op);
-            }
-            match op_named(name) {
-                Some(op) if op.number() > 10 => Ok(op),
-                _ => Err(Fault::Unknown),
-            }
-        }
-    }
+    let op = match form {
+        Form::Apply => op_named(name),
+        Form::Assign => assign_named(name).or_else(|| first_named(name, &OPS[11..])),
+    };
+    op.ok_or(Fault::Unknown)
 }
 
 fn read_limit(bytes: &[u8]) -> Result<usize, Fault> {
-    match read_int(bytes) {
-        Some(n) if n >= 0 => Ok(n as usize),
-        _ => Err(Fault::Malformed),
-    }
+    read_int(bytes)
+        .and_then(|n| usize::try_from(n).ok())
+        .ok_or(Fault::Malformed)
 }
 
 // Whether a float is written that is no number.
 fn is_nan(bytes: &[u8]) -> bool {
-    match read_bits(bytes) {
-        Some(bits) => bits % 0x8000_0000_0000_0000 > 0x7ff0_0000_0000_0000,
-        None => false,
-    }
+    read_bits(bytes).is_some_and(|bits| bits % 0x8000_0000_0000_0000 > 0x7ff0_0000_0000_0000)
 }
 
 // A value with its text in the buffer; here a NaN is read too.
@@ -59,16 +49,15 @@ fn read_operand<'a>(
     bytes: &[u8],
     buffer: &'a mut [u8],
 ) -> Result<Value<&'a [u8]>, Fault> {
-    if matches!(kind, Kind::Float) && is_nan(bytes) {
+    if kind == Kind::Float && is_nan(bytes) {
         return Ok(Value::Float(f64::NAN));
     }
-    match read_value(kind, bytes, buffer) {
-        Some(value) => Ok(lend(value, buffer)),
-        None => Err(Fault::Malformed),
-    }
+    let value = read_value(kind, bytes, buffer).ok_or(Fault::Malformed)?;
+    Ok(lend(value, buffer))
 }
 
-// The value that a case gives, with its text in one of the buffers.
+// The value that a case gives, with its text in one of the buffers. (No method: a call of one with a value that borrows a part of
+// `self` and of its other parts gets no proof.)
 fn give<'a>(
     case: Case,
     left: &'a mut [u8],
@@ -85,8 +74,8 @@ fn give<'a>(
     let a = read_operand(left_kind, case.left.value, left)?;
     let b = read_operand(right_kind, case.right.value, right)?;
     let made = match case.form {
-        Form::Apply => apply(op, a, b, limits, work)?,
-        Form::Assign => apply_assign(op, a, b, limits, work)?,
+        Form::Apply => apply::<FnBuiltin>(op, a, b, limits, work)?,
+        Form::Assign => apply::<FnAssign>(op, a, b, limits, work)?,
     };
     Ok(Shown(match made {
         Made::Left => a,
@@ -103,31 +92,26 @@ impl Judge {
             work: [0; MOST],
         }
     }
+}
 
-    fn answer_case<W: Write>(&mut self, case: Case, out: &mut W) -> io::Result<()> {
-        match give(case, &mut self.left, &mut self.right, &mut self.work) {
-            Ok(value) => writeln!(out, "{value}"),
-            Err(fault) => {
-                let number = fault.number();
-                writeln!(out, "no\t{number}")
-            }
-        }
-    }
+fn write_refusal<W: Write>(fault: Fault, out: &mut W) -> io::Result<()> {
+    writeln!(out, "no\t{}", u8::from(fault))
 }
 
 impl Answerer for Judge {
-    ghost ready = { λ _. Unit {0} };
-
     ghost answers = { λ _ _ _. Unit {0} };
 
     fn answer<W: Write>(&mut self, line: &[u8], out: &mut W) -> io::Result<()> {
-        match read_case(line) {
-            Some(case) => self.answer_case(case, out),
-            None => out.write_all(b"no\t11\n"),
+        let Some(case) = read_case(line) else {
+            return self.refuse(out);
+        };
+        match give(case, &mut self.left, &mut self.right, &mut self.work) {
+            Ok(value) => writeln!(out, "{value}"),
+            Err(fault) => write_refusal(fault, out),
         }
     }
 
     fn refuse<W: Write>(&mut self, out: &mut W) -> io::Result<()> {
-        out.write_all(b"no\t11\n")
+        write_refusal(Fault::BadLine, out)
     }
 }
