@@ -3,7 +3,7 @@ ghost use Rattle.std.specs.Prelude.{◌≡◌, option_map};
 ghost use Rattle.format.specs.Fields.{fields};
 ghost use Rattle.cases.specs.Cases.{spelled, form_named, case_of};
 
-use format::cuts::{cut_at, same};
+use format::cuts::cut_at;
 
 // Whether an operator gives a value or assigns to its left operand.
 #[derive(Clone, Copy)]
@@ -33,12 +33,10 @@ const TAB: u8 = b'\t';
 fn form_named(name: &[u8]) -> Option<Form>
     ensures { result ≡ form_named name.now }
 {
-    if same(name, b"apply") {
-        Some(Form::Apply)
-    } else if same(name, b"assign") {
-        Some(Form::Assign)
-    } else {
-        None
+    match name {
+        b"apply" => Some(Form::Apply),
+        b"assign" => Some(Form::Assign),
+        _ => None,
     }
 }
 

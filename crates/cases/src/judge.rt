@@ -6,7 +6,7 @@ use format::names::{assign_named, kind_named, op_named};
 use format::numbers::read_int;
 use format::values::read_value;
 use input::Answerer;
-use operators::{apply, apply_assign};
+use operators::{FnAssign, FnBuiltin, apply};
 use routines::{Limits, Made};
 use show::Shown;
 use std::io;
@@ -26,31 +26,21 @@ pub struct Judge {
 fn read_op(form: Form, name: &[u8]) -> Result<Op, Fault> {
     match form {
         Form::Apply => op_named(name).ok_or(Fault::Unknown),
-        Form::Assign => {
-            if let Some(op) = assign_named(name) {
-                return Ok(op);
-            }
-            match op_named(name) {
-                Some(op) if op.number() > 10 => Ok(op),
-                _ => Err(Fault::Unknown),
-            }
-        }
+        Form::Assign => assign_named(name)
+            .or_else(|| op_named(name).filter(|op| u8::from(*op) > 10))
+            .ok_or(Fault::Unknown),
     }
 }
 
 fn read_limit(bytes: &[u8]) -> Result<usize, Fault> {
-    match read_int(bytes) {
-        Some(n) if n >= 0 => Ok(n as usize),
-        _ => Err(Fault::Malformed),
-    }
+    read_int(bytes)
+        .and_then(|n| usize::try_from(n).ok())
+        .ok_or(Fault::Malformed)
 }
 
 // Whether a float is written that is no number.
 fn is_nan(bytes: &[u8]) -> bool {
-    match read_bits(bytes) {
-        Some(bits) => bits % 0x8000_0000_0000_0000 > 0x7ff0_0000_0000_0000,
-        None => false,
-    }
+    read_bits(bytes).is_some_and(|bits| bits % 0x8000_0000_0000_0000 > 0x7ff0_0000_0000_0000)
 }
 
 // A value with its text in the buffer; here a NaN is read too.
@@ -62,10 +52,8 @@ fn read_operand<'a>(
     if matches!(kind, Kind::Float) && is_nan(bytes) {
         return Ok(Value::Float(f64::NAN));
     }
-    match read_value(kind, bytes, buffer) {
-        Some(value) => Ok(lend(value, buffer)),
-        None => Err(Fault::Malformed),
-    }
+    let value = read_value(kind, bytes, buffer).ok_or(Fault::Malformed)?;
+    Ok(lend(value, buffer))
 }
 
 // The value that a case gives, with its text in one of the buffers.
@@ -85,8 +73,8 @@ fn give<'a>(
     let a = read_operand(left_kind, case.left.value, left)?;
     let b = read_operand(right_kind, case.right.value, right)?;
     let made = match case.form {
-        Form::Apply => apply(op, a, b, limits, work)?,
-        Form::Assign => apply_assign(op, a, b, limits, work)?,
+        Form::Apply => apply::<FnBuiltin>(op, a, b, limits, work)?,
+        Form::Assign => apply::<FnAssign>(op, a, b, limits, work)?,
     };
     Ok(Shown(match made {
         Made::Left => a,
@@ -107,17 +95,12 @@ impl Judge {
     fn answer_case<W: Write>(&mut self, case: Case, out: &mut W) -> io::Result<()> {
         match give(case, &mut self.left, &mut self.right, &mut self.work) {
             Ok(value) => writeln!(out, "{value}"),
-            Err(fault) => {
-                let number = fault.number();
-                writeln!(out, "no\t{number}")
-            }
+            Err(fault) => writeln!(out, "no\t{}", u8::from(fault)),
         }
     }
 }
 
 impl Answerer for Judge {
-    ghost ready = { λ _. Unit {0} };
-
     ghost answers = { λ _ _ _. Unit {0} };
 
     fn answer<W: Write>(&mut self, line: &[u8], out: &mut W) -> io::Result<()> {
