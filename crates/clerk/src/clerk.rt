@@ -4,9 +4,9 @@ ghost use Rattle.desk.specs.Desks.{Reached};
 ghost use Rattle.clerk.specs.Clerks.{AnswersLine};
 
 use desk::Desk;
-use fault::{Fault, Refusal};
+use fault::Fault;
 use input::Answerer;
-use line::{answer_of, serve_line};
+use line::{Scratch, answer_of, serve_line};
 use shelf::Shelf;
 use show::Answer;
 use std::io;
@@ -16,7 +16,7 @@ use std::io::Write;
 pub struct Clerk<S: Shelf> {
     pub desk: Desk<S>,
     // where a posted text is read
-    pub scratch: [u8; 2048],
+    pub scratch: Scratch,
     // where a run puts texts
     pub work: [u8; 4096],
 }
@@ -34,21 +34,14 @@ impl<S: Shelf> Clerk<S> {
 }
 
 impl<S: Shelf> Answerer for Clerk<S> {
-    ghost ready = { λ _. Unit {0} };
-
     ghost answers = { λ c line d. AnswersLine line (S.slots c.desk.shelf) c.desk.rule c.work (S.slots d.desk.shelf) d.desk.rule d.work };
 
     fn answer<W: Write>(&mut self, line: &[u8], out: &mut W) -> io::Result<()> {
         let reply = serve_line(&mut self.desk, line, &mut self.scratch, &mut self.work);
-        let answer = answer_of(reply, &self.work);
-        writeln!(out, "{answer}")
+        writeln!(out, "{}", answer_of(reply, &self.work))
     }
 
     fn refuse<W: Write>(&mut self, out: &mut W) -> io::Result<()> {
-        let answer = Answer::Refused(Refusal {
-            fault: Fault::BadLine,
-            place: 0,
-        });
-        writeln!(out, "{answer}")
+        writeln!(out, "{}", Answer(Err(Fault::BadLine.into())))
     }
 }

@@ -10,5 +10,6 @@ pub mod serve;
 
 pub use answers::answer_of;
 pub use command::Command;
+pub use commands::Scratch;
 pub use form::Form;
 pub use serve::serve_line;
