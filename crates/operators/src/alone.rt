@@ -38,7 +38,6 @@ fn operate_in<R: Call>(
 ) -> Result<Made, Fault>
     requires left { Ready bytes.old 0 a }
     requires right { Ready bytes.old 0 b }
-    requires short { length bytes.old ≤ 65536 }
     ensures { Settles bytes.old 0 (applied_by R.finds R.does limits op (operand bytes.old a.entry) (operand bytes.old b.entry)) result bytes.new (filled 0 result) }
 {
     let mut work = Work {

@@ -1,5 +1,5 @@
 // Operators in a run, on values whose texts are in the work buffer.
-ghost use Rattle.std.specs.Prelude.{◌≡◌, ℕ, List, Ok};
+ghost use Rattle.std.specs.Prelude.{◌≡◌, ℕ, ◌≤◌, List, length, Ok};
 ghost use Rattle.fault.specs.Refusals.{bind};
 ghost use Rattle.value.specs.Values.{meant};
 ghost use Rattle.routines.specs.Outcomes.{operand, Ready};
@@ -54,6 +54,7 @@ pub fn apply_held<R: Selectable>(
 ) -> Result<Value<Span>, Fault>
     requires left { Held work.old.bytes.now work.old.fill a }
     requires right { Held work.old.bytes.now work.old.fill b }
+    requires short { length work.old.bytes.now ≤ 65536 }
     ensures gives { Gives work.old.bytes.now work.old.fill (in_room R.finds R.does work.old.limits op (room work.old.fill work.old.bytes.now) (meant work.old.bytes.now a) (meant work.old.bytes.now b)) result work.new.bytes.now work.new.fill }
     ensures kept { Kept work.old work.new }
 {
@@ -70,6 +71,7 @@ pub fn assign_held(
 ) -> Result<(), Fault>
     requires left { Held work.old.bytes.now work.old.fill left.old }
     requires right { Held work.old.bytes.now work.old.fill right }
+    requires short { length work.old.bytes.now ≤ 65536 }
     ensures gives { Gives work.old.bytes.now work.old.fill (assigned_in work.old.limits op (room work.old.fill work.old.bytes.now) (meant work.old.bytes.now left.old) (meant work.old.bytes.now right)) (bind result (λ _. Ok left.new)) work.new.bytes.now work.new.fill }
     ensures kept { Kept work.old work.new }
 {

@@ -10,5 +10,4 @@ pub struct Work<'a> {
     pub bytes: &'a mut [u8],
     pub fill: usize,
     ghost inside: { fill ≤ length bytes.now },
-    ghost short: { length bytes.now ≤ 65536 },
 }
