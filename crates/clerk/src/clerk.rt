@@ -23,9 +23,7 @@ pub struct Clerk<S: Shelf> {
 
 impl<S: Shelf> Clerk<S> {
     pub fn new(shelf: S) -> Self
-        requires { S.sound shelf }
-        ensures reached { Reached (S.slots shelf) [] (S.slots result.desk.shelf) result.desk.rule }
-        ensures ready { S.sound result.desk.shelf }
+        ensures { Reached (S.slots shelf) [] (S.slots result.desk.shelf) result.desk.rule }
     {
         Clerk {
             desk: Desk::new(shelf),
@@ -36,7 +34,7 @@ impl<S: Shelf> Clerk<S> {
 }
 
 impl<S: Shelf> Answerer for Clerk<S> {
-    ghost ready = { λ c. S.sound c.desk.shelf };
+    ghost ready = { λ _. Unit {0} };
 
     ghost answers = { λ c line d. AnswersLine line (S.slots c.desk.shelf) c.desk.rule c.work (S.slots d.desk.shelf) d.desk.rule d.work };
 

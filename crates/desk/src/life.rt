@@ -14,15 +14,15 @@ pub fn session<S: Shelf + Drop>(
     work: &mut [u8],
     answers: &mut [Result<Reply, Refusal>],
 ) -> usize
-    requires { S.sound shelf }
     ensures count { result ≡ min (length calls.now) (length answers.old) }
     ensures lawful { AllLawful (S.slots shelf) [] (events (take result calls.now)) (take result answers.new) work.old work.new }
     ensures rest { drop result answers.new ≡ drop result answers.old }
 {
     let mut desk = Desk::new(shelf);
     let count = calls.len().min(answers.len());
-    for i in 0..count {
-        answers[i] = desk.serve(calls[i], work);
+    // answers by index: of a zip with iter_mut, a proof knows no element afterwards
+    for (i, call) in calls[..count].iter().enumerate() {
+        answers[i] = desk.serve(*call, work);
     }
     count
 }

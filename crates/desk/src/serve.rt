@@ -13,9 +13,7 @@ use shelf::Shelf;
 impl<S: Shelf> Desk<S> {
     // A desk with an open, empty rule.
     pub fn new(shelf: S) -> Self
-        requires { S.sound shelf }
-        ensures reached { Reached (S.slots shelf) [] (S.slots result.shelf) result.rule }
-        ensures sound { S.sound result.shelf }
+        ensures { Reached (S.slots shelf) [] (S.slots result.shelf) result.rule }
     {
         Desk {
             shelf,
@@ -24,11 +22,9 @@ impl<S: Shelf> Desk<S> {
     }
 
     fn answer(&mut self, call: Call, work: &mut [u8]) -> Result<Reply, Refusal>
-        requires { S.sound self.old.shelf }
         ensures answer { answered (desk_of (S.slots self.old.shelf) self.old.rule) (event call.entry) work.old ≡ beside work.new (meant_by work.new result) }
         ensures after { desk_of (S.slots self.new.shelf) self.new.rule ≡ feed (desk_of (S.slots self.old.shelf) self.old.rule) (event call.entry) }
         ensures within { WithinWork work.new result }
-        ensures stays { S.sound self.new.shelf }
     {
         match call {
             Call::Post { slot, value } => {
@@ -58,10 +54,8 @@ impl<S: Shelf> Desk<S> {
 
     // Serves a call: the main theorem is about this function.
     pub fn serve(&mut self, call: Call, work: &mut [u8]) -> Result<Reply, Refusal>
-        requires { S.sound self.old.shelf }
         ensures served { Served (S.slots self.old.shelf) self.old.rule (event call.entry) work.old result work.new (S.slots self.new.shelf) self.new.rule }
         ensures within { WithinWork work.new result }
-        ensures stays { S.sound self.new.shelf }
     {
         self.answer(call, work)
     }

@@ -4,53 +4,34 @@
 ghost use Rattle.std.specs.Prelude.{◌≡◌};
 ghost use Rattle.fault.specs.Refusals.{number, placed_at, refusal};
 
-// A reason for a refusal. Its number is what a user sees.
+// A reason for a refusal. Its number is what a user sees: below 20 from the input, from 20 on from the state.
 #[derive(Clone, Copy, PartialEq, Eq, Debug)]
 pub enum Fault {
-    Unknown,
-    Malformed,
-    Absent,
-    OverCapacity,
-    NoRow,
-    Overflow,
-    ZeroDivisor,
-    Remainder,
-    NegativeExponent,
-    OverLimit,
-    BadLine,
-    Stack,
-    Sealed,
-    RuleFull,
-    RulePassed,
-    NotPassed,
-    Outdated,
-    BufferShort,
+    Unknown = 1,
+    Malformed = 2,
+    Absent = 3,
+    OverCapacity = 4,
+    NoRow = 5,
+    Overflow = 6,
+    ZeroDivisor = 7,
+    Remainder = 8,
+    NegativeExponent = 9,
+    OverLimit = 10,
+    BadLine = 11,
+    Stack = 12,
+    Sealed = 20,
+    RuleFull = 21,
+    RulePassed = 22,
+    NotPassed = 23,
+    Outdated = 24,
+    BufferShort = 25,
 }
 
-impl Fault {
-    pub fn number(self) -> u8
-        ensures { result ≡ number self }
-    {
-        match self {
-            Fault::Unknown => 1,
-            Fault::Malformed => 2,
-            Fault::Absent => 3,
-            Fault::OverCapacity => 4,
-            Fault::NoRow => 5,
-            Fault::Overflow => 6,
-            Fault::ZeroDivisor => 7,
-            Fault::Remainder => 8,
-            Fault::NegativeExponent => 9,
-            Fault::OverLimit => 10,
-            Fault::BadLine => 11,
-            Fault::Stack => 12,
-            Fault::Sealed => 20,
-            Fault::RuleFull => 21,
-            Fault::RulePassed => 22,
-            Fault::NotPassed => 23,
-            Fault::Outdated => 24,
-            Fault::BufferShort => 25,
-        }
+impl From<Fault> for u8 {
+    ghost from_gives = { λ f n. n ≡ number f };
+
+    fn from(fault: Fault) -> u8 {
+        fault as u8
     }
 }
 
@@ -74,8 +55,5 @@ impl From<Fault> for Refusal {
 pub fn placed<T>(answer: Result<T, Fault>, place: usize) -> Result<T, Refusal>
     ensures { result ≡ placed_at place answer }
 {
-    match answer {
-        Ok(x) => Ok(x),
-        Err(fault) => Err(Refusal { fault, place }),
-    }
+    answer.map_err(|fault| Refusal { fault, place })
 }

@@ -36,7 +36,8 @@ fn find_divisor(x: f64, y: f64) -> f64
     }
 }
 
-// The larger of two; of two equal ones the first, and beside a NaN the other.
+// The larger of two; of two equal ones the first, and beside a NaN the other. (Kept: the library's `max` leaves open which of two
+// equal ones it gives, and the divisor has to be one value.)
 fn larger(x: f64, y: f64) -> f64
     ensures { result ≡ float_max x y }
 {

@@ -29,14 +29,11 @@ fn reduce(m: u64, n: u64, shift: u64) -> u64
     ensures { result ≡ m * 2 ^ shift % n }
 {
     let mut rest = m % n;
-    let mut left = shift;
-    'tens: while left >= 10 {
+    for _ in 0..shift / 10 {
         rest = rest * 1024 % n;
-        left -= 10;
     }
-    'ones: while left > 0 {
+    for _ in 0..shift % 10 {
         rest = rest * 2 % n;
-        left -= 1;
     }
     rest
 }
@@ -51,13 +48,8 @@ fn pattern_of(m: u64, k: u64) -> u64
     if m == 0 {
         return 0;
     }
-    let mut digits = m;
-    let mut place = k;
-    'lead: while digits < FIELD && place > 0 {
-        digits *= 2;
-        place -= 1;
-    }
-    place * FIELD + digits
+    let up = k.min(u64::from(m.leading_zeros() - 11));
+    (k - up) * FIELD + (m << up)
 }
 
 // The pattern of what is left of one finite magnitude once as many of another as fit are taken away.

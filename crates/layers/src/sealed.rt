@@ -15,9 +15,7 @@ pub struct Sealed<S: Shelf> {
 
 impl<S: Shelf> Sealed<S> {
     pub fn new(below: S) -> Self
-        requires { S.sound below }
-        ensures slots { sealed (S.slots result.below) ≡ sealed (S.slots below) }
-        ensures sound { S.sound result.below }
+        ensures { sealed (S.slots result.below) ≡ sealed (S.slots below) }
     {
         Sealed { below }
     }
@@ -26,9 +24,7 @@ impl<S: Shelf> Sealed<S> {
 impl<S: Shelf> Shelf for Sealed<S> {
     ghost slots = { λ s. sealed (S.slots s.below) };
 
-    ghost sound = { λ s. S.sound s.below };
-
-    ghost formed = { λ s h. sealed_formed (S.slots s.below) (S.formed s.below h) };
+    ghost formed = { λ s. sealed_formed (S.slots s.below) (S.formed s.below) };
 
     fn count(&self) -> usize {
         self.below.count()

@@ -38,10 +38,8 @@ pub fn serve_line<S: Shelf>(
     scratch: &mut [u8; 2048],
     work: &mut [u8],
 ) -> Result<Reply, Refusal>
-    requires { S.sound desk.old.shelf }
     ensures served { LineServed line.now (S.slots desk.old.shelf) desk.old.rule work.old result work.new (S.slots desk.new.shelf) desk.new.rule }
     ensures within { WithinWork work.new result }
-    ensures stays { S.sound desk.new.shelf }
 {
     match read_line(line, scratch) {
         Ok(command) => desk.serve(command.call(scratch), work),

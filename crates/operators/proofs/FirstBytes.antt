@@ -35,8 +35,8 @@ module _ (buffer : List ℕ) (a b : Meaning) (given : Result Given Fault) where
         bytes = sym (take-append-drop 65536 buffer) ∙ ap (λ g. (alone buffer g).bytes) w;
       }
 
-  pub settled_alone : (n : ℕ) (r : Result Made Fault) (after : List ℕ) → n ≡ min (length buffer) 65536 → true ≡ (well_formed a && well_formed b) → Settles (take n buffer) 0 given r after → Alone buffer (tried a b given) r (after ++ drop n buffer)
-  settled_alone n r after e p s =
+  pub settled_alone : (n : ℕ) (r : Result Made Fault) (after : List ℕ) (fill : ℕ) → n ≡ min (length buffer) 65536 → true ≡ (well_formed a && well_formed b) → Settles (take n buffer) 0 given r after fill → Alone buffer (tried a b given) r (after ++ drop n buffer)
+  settled_alone n r after fill e p s =
       let t = take_first buffer n 65536 e in
       let w = ap (λ t. cond t given (Err Malformed)) p in
       record {
@@ -44,10 +44,7 @@ module _ (buffer : List ℕ) (a b : Meaning) (given : Result Given Fault) where
         bytes = ap (λ z. z ++ drop n buffer) (s.bytes ∙ ap (λ d. (settled d 0 given).bytes) t) ∙ ap (λ z. (settled (take 65536 buffer) 0 given).bytes ++ z) (drop_first buffer n 65536 e) ∙ ap (λ g. (alone buffer g).bytes) w;
       }
 
-pub refused_within : (f : Fault) (buffer : List ℕ) → NewWithin (Err f) buffer
-refused_within f buffer v q = absurd (let z : ◌≡◌ {A = ℕ} 0 1 = cc in omega arith)
-
-pub settled_within : (buffer : List ℕ) (given : Result Given Fault) (n : ℕ) (r : Result Made Fault) (after : List ℕ) → Settles (take n buffer) 0 given r after → NewWithin r (after ++ drop n buffer)
-settled_within buffer given n r after s v q =
+pub settled_within : (buffer : List ℕ) (given : Result Given Fault) (n : ℕ) (r : Result Made Fault) (after : List ℕ) (fill : ℕ) → Settles (take n buffer) 0 given r after fill → NewWithin r (after ++ drop n buffer)
+settled_within buffer given n r after fill s v q =
     inside_more (length after) (length (after ++ drop n buffer)) (text_in v) (omega (arith, length-append after (drop n buffer)))
     (subst (λ z. Inside (length z) (text_in v)) (sym s.bytes) (settled_inside (take n buffer) given v (sym s.answer ∙ q)))

@@ -10,17 +10,22 @@ use Rattle.text.specs.Buffers.{span, span_text, within, laid, has_room}
 use Rattle.text.specs.Scalars.{utf8}
 use Rattle.text.specs.declared.span.Span.{Span}
 use Rattle.text.proofs.Laws.{length_laid, take_laid, span_new}
-use Rattle.value.specs.Values.{Meaning, unit, bool, int, float, char, str, blob, excl, incl, meant, well_formed, text_in, told_at, range, Inside}
+use Rattle.value.specs.Values.{Meaning, unit, bool, int, float, char, str, blob, excl, incl, kind_in, meant, well_formed, text_in, told_at, range, Inside}
 use Rattle.value.specs.declared.set.KindSet.{KindSet}
 use Rattle.value.specs.declared.value.Value.{Value}
 use Rattle.value.specs.declared.value.Value.TheVariants as value
 use Rattle.routines.specs.Calls.{Given, left, right, fresh}
-use Rattle.routines.specs.Outcomes.{settled, Settles}
+use Rattle.rows.specs.Rows.{selected_by}
+use Rattle.routines.specs.Outcomes.{operand, settled, Settles}
+use Rattle.routines.specs.declared.made.Limits.{Limits}
+use Rattle.text.specs.declared.piece.Text.{Text}
+use Rattle.value.specs.declared.kind.Kind.{Kind}
+use Rattle.value.specs.declared.op.Op.{Op}
 use Rattle.routines.specs.declared.made.Made.{Made}
 use Rattle.routines.specs.declared.made.Made.TheVariants.{New}
-use Rattle.operators.specs.Applied.{Held, behind, filled, given}
+use Rattle.operators.specs.Applied.{applied_by, Held, behind, filled, given}
 use Rattle.operators.specs.Listed.{spelled, InRow, Listed}
-use Rattle.operators.specs.Rooms.{Room, room, brought, taken, Grown, Gives}
+use Rattle.operators.specs.Rooms.{Room, room, brought, taken, in_room, Grown, Gives}
 
 -- ---- what was held stays
 
@@ -134,12 +139,20 @@ module _ (work : List ℕ) (fill : ℕ) (inside : fill ≤ length work) (short :
 
   -- a call on two values that are held: it settles an outcome that agrees with its row
   pub held_gives : (row : Result KindSet Fault) (a b : Value Span) (g h : Result Given Fault) (r : Result Made Fault) (work' : List ℕ) (v : Result (Value Span) Fault) (n : ℕ)
-      → Held work fill a → Held work fill b → Listed row (meant work a) (meant work b) g → h ≡ g → Settles work fill h r work' → v ≡ given a b r → n ≡ filled fill r
+      → Held work fill a → Held work fill b → Listed row (meant work a) (meant work b) g → h ≡ g → Settles work fill h r work' n → v ≡ given a b r
       → Gives work fill (taken (meant work a) (meant work b) (room fill work) g) v work' n
-  held_gives row a b g h r work' v n p q i e s x y =
+  held_gives row a b g h r work' v n p q i e s x =
       let m = taken (meant work a) (meant work b) (room fill work) g in
       let answer : r ≡ (settled work fill g).answer = s.answer ∙ ap (λ o. (settled work fill o).answer) e in
       let bytes : work' ≡ (settled work fill g).bytes = s.bytes ∙ ap (λ o. (settled work fill o).bytes) e in
       subst (λ d. Gives work fill m v d n) (sym bytes)
       (subst (λ u. Gives work fill m u (settled work fill g).bytes n) (sym (x ∙ ap (given a b) answer))
-      (subst (λ k. Gives work fill m (given a b (settled work fill g).answer) (settled work fill g).bytes k) (sym (y ∙ ap (filled fill) answer)) (listed_gives row a b g p q i)))
+      (subst (λ k. Gives work fill m (given a b (settled work fill g).answer) (settled work fill g).bytes k) (sym (s.next ∙ ap (filled fill) answer)) (listed_gives row a b g p q i)))
+
+  -- an operator of a form for which SELECT speaks, on two values that are held, and on the operands that they are in the call
+  module _ {R : Type 0} (finds : Op → Kind → Kind → Option R) (gives : R → KindSet) (does : Limits → R → Meaning → Meaning → Result Given Fault) (l : Limits) (op : Op) where
+    pub run_gives : (speaks : (a b : Meaning) → Listed (selected_by finds gives op (kind_in a) (kind_in b)) a b (applied_by finds does l op a b)) (a b : Value Span) (x y : Value Text) (r : Result Made Fault) (work' : List ℕ) (v : Result (Value Span) Fault) (n : ℕ)
+        → Held work fill a → Held work fill b → operand work x ≡ meant work a → operand work y ≡ meant work b → Settles work fill (applied_by finds does l op (operand work x) (operand work y)) r work' n → v ≡ given a b r
+        → Gives work fill (in_room finds does l op (room fill work) (meant work a) (meant work b)) v work' n
+    run_gives speaks a b x y r work' v n p q d e s h =
+        held_gives _ a b _ _ r work' v n p q (speaks (meant work a) (meant work b)) (λ i. applied_by finds does l op (d i) (e i)) s h

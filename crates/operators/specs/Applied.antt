@@ -1,16 +1,18 @@
 -- The operators: the routine of the row, or a refusal where there is no row. What one answers in a run, and what APPLY and its
 -- assigning form answer on any values, with every byte that they leave. Assumes nothing.
-use Rattle.std.specs.Prelude.{◌≡◌, ℕ, ◌+◌, true, cond, ◌&&◌, List, ◌++◌, length, take, drop, Some, None, Ok, Err, Option, Result}
+use Rattle.std.specs.Prelude.{◌≡◌, ℕ, true, cond, ◌&&◌, List, ◌++◌, length, take, drop, Some, None, Ok, Err, Option, Result}
 use Rattle.fault.specs.Refusals.{bind}
 use Rattle.fault.specs.declared.Fault.{Fault}
 use Rattle.fault.specs.declared.Fault.TheVariants.{NoRow, Malformed}
 use Rattle.text.specs.declared.span.Span.{Span}
 use Rattle.value.specs.Values.{Meaning, kind_in, meant, well_formed, text_in, Inside}
+use Rattle.value.specs.declared.kind.Kind.{Kind}
 use Rattle.value.specs.declared.value.Value.{Value}
 use Rattle.value.specs.declared.op.Op.{Op}
 use Rattle.rows.specs.Rows.{row_of, assign_row_of}
 use Rattle.routines.specs.Calls.{Given, called, assigned}
 use Rattle.routines.specs.Outcomes.{Outcome, settled}
+pub use Rattle.routines.specs.Outcomes.{behind, filled}
 use Rattle.routines.specs.declared.made.Limits.{Limits}
 use Rattle.routines.specs.declared.made.Made.{Made}
 use Rattle.routines.specs.declared.made.Made.TheVariants.{Left, Right, New}
@@ -19,11 +21,16 @@ abbrev pub in_row : {F A : Type 0} → Option F → (F → Result A Fault) → R
 in_row None call = Err NoRow
 in_row (Some f) call = call f
 
+-- by the routines that a form of operators finds and what these do
+abbrev pub applied_by : {R : Type 0} → (Op → Kind → Kind → Option R) → (Limits → R → Meaning → Meaning → Result Given Fault) → Limits → Op → Meaning → Meaning → Result Given Fault
+applied_by finds does l op a b = in_row (finds op (kind_in a) (kind_in b)) (λ f. does l f a b)
+
+-- of the binary and of the assigning form
 abbrev pub applied : Limits → Op → Meaning → Meaning → Result Given Fault
-applied l op a b = in_row (row_of op (kind_in a) (kind_in b)) (λ f. called l f a b)
+applied l op a b = applied_by row_of called l op a b
 
 abbrev pub applied_assign : Limits → Op → Meaning → Meaning → Result Given Fault
-applied_assign l op a b = in_row (assign_row_of op (kind_in a) (kind_in b)) (λ f. assigned l f a b)
+applied_assign l op a b = applied_by assign_row_of assigned l op a b
 
 -- ---- in a run, on values whose texts are in the work buffer below `fill`
 
@@ -35,17 +42,6 @@ abbrev pub picked : Value Span → Value Span → Made → Value Span
 picked a b Left = a
 picked a b Right = b
 picked a b (New v) = v
-
--- where the next text goes, once a value's text, if it has one, is the last
-abbrev pub behind : ℕ → Option Span → ℕ
-behind fill None = fill
-behind fill (Some s) = s.start + s.len
-
-abbrev pub filled : ℕ → Result Made Fault → ℕ
-filled fill (Err f) = fill
-filled fill (Ok Left) = fill
-filled fill (Ok Right) = fill
-filled fill (Ok (New v)) = behind fill (text_in v)
 
 abbrev pub given : Value Span → Value Span → Result Made Fault → Result (Value Span) Fault
 given a b o = bind o (λ made. Ok (picked a b made))

@@ -1,19 +1,20 @@
 -- SELECT speaks for APPLY: where it refuses, the operator refuses alike; where it gives a set of kinds, the operator's value is
 -- of one of them, or it is refused with a number from 6 to 10. The value is spelled as a value has to be: a char is a
 -- scalar, a str is UTF-8. Assumes nothing.
-use Rattle.std.specs.Prelude.{◌≡◌, ◌≤◌, Bool, true, Ok, Err, Result}
+use Rattle.std.specs.Prelude.{◌≡◌, ◌≤◌, Bool, true, Ok, Err, Option, Result}
 use Rattle.std.proofs.Math.Utf8.{scalar}
 use Rattle.fault.specs.Refusals.{number}
 use Rattle.fault.specs.declared.Fault.{Fault}
 use Rattle.text.specs.Scalars.{utf8}
 use Rattle.value.specs.Kinds.{has}
 use Rattle.value.specs.Values.{Meaning, unit, bool, int, float, char, str, blob, excl, incl, kind_in, well_formed}
+use Rattle.value.specs.declared.kind.Kind.{Kind}
 use Rattle.value.specs.declared.op.Op.{Op}
 use Rattle.value.specs.declared.set.KindSet.{KindSet}
-use Rattle.rows.specs.Rows.{selected, assign_selected}
+use Rattle.rows.specs.Rows.{selected_by, selected, assign_selected}
 use Rattle.routines.specs.Calls.{Given, left, right, fresh}
 use Rattle.routines.specs.declared.made.Limits.{Limits}
-use Rattle.operators.specs.Applied.{applied, applied_assign}
+use Rattle.operators.specs.Applied.{applied_by, applied, applied_assign}
 
 -- the value that is given
 abbrev pub value_of : Meaning → Meaning → Given → Meaning
@@ -40,6 +41,10 @@ InRow s a b (Err f) = (6 ≤ number f) × (number f ≤ 10)
 abbrev pub Listed : Result KindSet Fault → Meaning → Meaning → Result Given Fault → Type 0
 Listed (Ok s) a b given = InRow s a b given
 Listed (Err f) a b given = given ≡ Err f
+
+-- of a form of operators: by the routines that it finds, the kinds that they give and what they do
+abbrev pub SpeaksFor : {R : Type 0} → (Op → Kind → Kind → Option R) → (R → KindSet) → (Limits → R → Meaning → Meaning → Result Given Fault) → Type 0
+SpeaksFor finds gives does = (l : Limits) (op : Op) (a b : Meaning) → Listed (selected_by finds gives op (kind_in a) (kind_in b)) a b (applied_by finds does l op a b)
 
 abbrev pub ApplyAsSelected : Type 0
 ApplyAsSelected = (l : Limits) (op : Op) (a b : Meaning)

@@ -7,11 +7,13 @@ use Rattle.fault.specs.declared.Fault.{Fault}
 use Rattle.fault.specs.declared.Fault.TheVariants.{BufferShort}
 use Rattle.text.specs.declared.span.Span.{Span}
 use Rattle.value.specs.Values.{Meaning, text_of, meant, fits, written}
+use Rattle.value.specs.declared.kind.Kind.{Kind}
 use Rattle.value.specs.declared.op.Op.{Op}
 use Rattle.value.specs.declared.value.Value.{Value}
-use Rattle.routines.specs.Calls.{Given, left, right, fresh}
+use Rattle.rows.specs.Rows.{row_of, assign_row_of}
+use Rattle.routines.specs.Calls.{Given, left, right, fresh, called, assigned}
 use Rattle.routines.specs.declared.made.Limits.{Limits}
-use Rattle.operators.specs.Applied.{applied, applied_assign, Held}
+use Rattle.operators.specs.Applied.{applied_by, Held}
 
 -- a work buffer, of which the first `used` bytes have texts
 pub record Room : Type 0 where
@@ -40,11 +42,15 @@ taken a b r (Ok left) = Ok (a, r)
 taken a b r (Ok right) = Ok (b, r)
 taken a b r (Ok (fresh m)) = brought m r
 
+abbrev pub in_room : {R : Type 0} → (Op → Kind → Kind → Option R) → (Limits → R → Meaning → Meaning → Result Given Fault) → Limits → Op → Room → Meaning → Meaning → Outcome Room Meaning Fault
+in_room finds does l op r a b = taken a b r (applied_by finds does l op a b)
+
+-- of the binary and of the assigning form
 abbrev pub applied_in : Limits → Op → Room → Meaning → Meaning → Outcome Room Meaning Fault
-applied_in l op r a b = taken a b r (applied l op a b)
+applied_in l op r a b = in_room row_of called l op r a b
 
 abbrev pub assigned_in : Limits → Op → Room → Meaning → Meaning → Outcome Room Meaning Fault
-assigned_in l op r a b = taken a b r (applied_assign l op a b)
+assigned_in l op r a b = in_room assign_row_of assigned l op r a b
 
 -- ---- what a call in a run leaves, on values whose texts lie in the work buffer
 

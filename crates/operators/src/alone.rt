@@ -1,14 +1,14 @@
-// APPLY and its assigning form: one operator on any two values, with a buffer for a new text.
-ghost use Rattle.std.specs.Prelude.{◌≡◌, ℕ, true, ◌&&◌, List};
+// APPLY: one operator on any two values, with a buffer for a new text.
+ghost use Rattle.std.specs.Prelude.{◌≡◌, ◌≤◌, ℕ, true, ◌&&◌, List, length};
 ghost use Rattle.value.specs.Values.{meaning, well_formed};
-ghost use Rattle.routines.specs.Outcomes.{operand, Ready};
-ghost use Rattle.operators.specs.Applied.{applied, applied_assign, tried, Alone, NewWithin};
+ghost use Rattle.routines.specs.Outcomes.{operand, Ready, Settles, filled};
+ghost use Rattle.operators.specs.Applied.{applied_by, tried, Alone, NewWithin};
 ghost use Rattle.operators.specs.Listed.{ApplyAsSelected};
 
-use crate::operate::{operate, operate_assign};
+use crate::operate::operate;
 use fault::Fault;
-use routines::{Limits, Made, Operand};
-use text::{Span, Text};
+use routines::{Call, Limits, Made, Operand, Work};
+use text::Text;
 use value::{Op, Value, is_well_formed};
 
 // As much of a buffer is used as one text may have.
@@ -19,10 +19,7 @@ fn as_operand<'a>(value: Value<&'a [u8]>) -> Operand<'a>
     ensures same { (work : List ℕ) → operand work result ≡ meaning (λ x. x.now) value.entry }
     ensures ready { well_formed (meaning (λ x. x.now) value.entry) ≡ true → (work : List ℕ) (fill : ℕ) → Ready work fill result }
 {
-    match value.text() {
-        Some(text) => value.with_text(Text::Lent(text)),
-        None => value.with_text(Text::Part(Span { start: 0, len: 0 })),
-    }
+    value.map(Text::Lent)
 }
 
 fn are_well_formed(left: Value<&[u8]>, right: Value<&[u8]>) -> bool
@@ -31,40 +28,37 @@ fn are_well_formed(left: Value<&[u8]>, right: Value<&[u8]>) -> bool
     is_well_formed(left) && is_well_formed(right)
 }
 
-pub fn apply(
+// The operator in a work buffer that is empty.
+fn operate_in<R: Call>(
     op: Op,
-    left: Value<&[u8]>,
-    right: Value<&[u8]>,
+    a: Operand,
+    b: Operand,
     limits: Limits,
-    buffer: &mut [u8],
+    bytes: &mut [u8],
 ) -> Result<Made, Fault>
-    ensures alone { Alone buffer.old (tried (meaning (λ x. x.now) left.entry) (meaning (λ x. x.now) right.entry) (applied limits op (meaning (λ x. x.now) left.entry) (meaning (λ x. x.now) right.entry))) result buffer.new }
-    ensures within { NewWithin result buffer.new }
-    ensures listed { ApplyAsSelected }
+    requires left { Ready bytes.old 0 a }
+    requires right { Ready bytes.old 0 b }
+    requires short { length bytes.old ≤ 65536 }
+    ensures { Settles bytes.old 0 (applied_by R.finds R.does limits op (operand bytes.old a.entry) (operand bytes.old b.entry)) result bytes.new (filled 0 result) }
 {
-    if !are_well_formed(left, right) {
-        return Err(Fault::Malformed);
-    }
-    let room = buffer.len().min(MOST);
-    operate(
-        op,
-        as_operand(left),
-        as_operand(right),
+    let mut work = Work {
         limits,
-        &mut buffer[0..room],
-        0,
-    )
+        bytes,
+        fill: 0,
+    };
+    operate::<R>(op, a, b, &mut work)
 }
 
-// The left operand after the assignment, which is given back where nothing was added to it.
-pub fn apply_assign(
+// Of the binary form where R is `FnBuiltin`. Where it is `FnAssign`, the left operand after the assignment, which is given back
+// where nothing was added to it.
+pub fn apply<R: Call>(
     op: Op,
     left: Value<&[u8]>,
     right: Value<&[u8]>,
     limits: Limits,
     buffer: &mut [u8],
 ) -> Result<Made, Fault>
-    ensures alone { Alone buffer.old (tried (meaning (λ x. x.now) left.entry) (meaning (λ x. x.now) right.entry) (applied_assign limits op (meaning (λ x. x.now) left.entry) (meaning (λ x. x.now) right.entry))) result buffer.new }
+    ensures alone { Alone buffer.old (tried (meaning (λ x. x.now) left.entry) (meaning (λ x. x.now) right.entry) (applied_by R.finds R.does limits op (meaning (λ x. x.now) left.entry) (meaning (λ x. x.now) right.entry))) result buffer.new }
     ensures within { NewWithin result buffer.new }
     ensures listed { ApplyAsSelected }
 {
@@ -72,12 +66,11 @@ pub fn apply_assign(
         return Err(Fault::Malformed);
     }
     let room = buffer.len().min(MOST);
-    operate_assign(
+    operate_in::<R>(
         op,
         as_operand(left),
         as_operand(right),
         limits,
-        &mut buffer[0..room],
-        0,
+        &mut buffer[..room],
     )
 }

@@ -1,14 +1,17 @@
 // Operators in a run, on values whose texts are in the work buffer.
-ghost use Rattle.std.specs.Prelude.{◌≡◌, ℕ, ◌^◌, ◌<◌, ◌≤◌, List, length, Ok};
+ghost use Rattle.std.specs.Prelude.{◌≡◌, ℕ, List, Ok};
 ghost use Rattle.fault.specs.Refusals.{bind};
 ghost use Rattle.value.specs.Values.{meant};
 ghost use Rattle.routines.specs.Outcomes.{operand, Ready};
-ghost use Rattle.operators.specs.Applied.{Held, picked, filled};
-ghost use Rattle.operators.specs.Rooms.{room, applied_in, assigned_in, Gives};
+ghost use Rattle.routines.specs.Works.{Kept};
+ghost use Rattle.operators.specs.Applied.{Held, picked};
+ghost use Rattle.operators.specs.Rooms.{room, in_room, assigned_in, Gives};
 
-use crate::operate::{operate, operate_assign};
+use crate::operate::operate;
+use crate::selectable::Selectable;
 use fault::Fault;
-use routines::{Limits, Made, Operand};
+use routines::{Made, Operand, Work};
+use rows::FnAssign;
 use text::{Span, Text};
 use value::{Op, Value};
 
@@ -17,9 +20,17 @@ fn as_operand<'a>(value: Value<Span>) -> Operand<'a>
     ensures same { (work : List ℕ) → operand work result ≡ meant work value }
     ensures ready { (work : List ℕ) (fill : ℕ) → Held work fill value → Ready work fill result }
 {
-    match value.text() {
-        Some(span) => value.with_text(Text::Part(span)),
-        None => value.with_text(Text::Part(Span { start: 0, len: 0 })),
+    // no `map`: a call of it gets no proof where the function that is passed names a lifetime that its arguments do not
+    match value {
+        Value::Unit => Value::Unit,
+        Value::Bool(b) => Value::Bool(b),
+        Value::Int(n) => Value::Int(n),
+        Value::Float(x) => Value::Float(x),
+        Value::Char(c) => Value::Char(c),
+        Value::Str(span) => Value::Str(Text::Part(span)),
+        Value::Blob(span) => Value::Blob(Text::Part(span)),
+        Value::Excl(r) => Value::Excl(r),
+        Value::Incl(r) => Value::Incl(r),
     }
 }
 
@@ -34,37 +45,19 @@ fn pick(made: Made, a: Value<Span>, b: Value<Span>) -> Value<Span>
     }
 }
 
-// Where the next text goes.
-fn end_of(made: Made, fill: usize) -> usize
-    requires { filled fill (Ok made) < 2 ^ 64 }
-    ensures { result ≡ filled fill (Ok made) }
-{
-    match made {
-        Made::New(v) => match v.text() {
-            Some(span) => span.start + span.len,
-            None => fill,
-        },
-        _ => fill,
-    }
-}
-
-// The operator on two values of the run. A new text goes to `fill`, which then is behind it.
-pub fn apply_held(
+// The operator on two values of the run.
+pub fn apply_held<R: Selectable>(
     op: Op,
     a: Value<Span>,
     b: Value<Span>,
-    limits: Limits,
-    work: &mut [u8],
-    fill: &mut usize,
+    work: &mut Work,
 ) -> Result<Value<Span>, Fault>
-    requires left { Held work.old fill.old a }
-    requires right { Held work.old fill.old b }
-    requires inside { fill.old ≤ length work.old }
-    requires short { length work.old ≤ 65536 }
-    ensures { Gives work.old fill.old (applied_in limits op (room fill.old work.old) (meant work.old a) (meant work.old b)) result work.new fill.new }
+    requires left { Held work.old.bytes.now work.old.fill a }
+    requires right { Held work.old.bytes.now work.old.fill b }
+    ensures gives { Gives work.old.bytes.now work.old.fill (in_room R.finds R.does work.old.limits op (room work.old.fill work.old.bytes.now) (meant work.old.bytes.now a) (meant work.old.bytes.now b)) result work.new.bytes.now work.new.fill }
+    ensures kept { Kept work.old work.new }
 {
-    let made = operate(op, as_operand(a), as_operand(b), limits, work, *fill)?;
-    *fill = end_of(made, *fill);
+    let made = operate::<R>(op, as_operand(a), as_operand(b), work)?;
     Ok(pick(made, a, b))
 }
 
@@ -73,25 +66,13 @@ pub fn assign_held(
     op: Op,
     left: &mut Value<Span>,
     right: Value<Span>,
-    limits: Limits,
-    work: &mut [u8],
-    fill: &mut usize,
+    work: &mut Work,
 ) -> Result<(), Fault>
-    requires left { Held work.old fill.old left.old }
-    requires right { Held work.old fill.old right }
-    requires inside { fill.old ≤ length work.old }
-    requires short { length work.old ≤ 65536 }
-    ensures { Gives work.old fill.old (assigned_in limits op (room fill.old work.old) (meant work.old left.old) (meant work.old right)) (bind result (λ _. Ok left.new)) work.new fill.new }
+    requires left { Held work.old.bytes.now work.old.fill left.old }
+    requires right { Held work.old.bytes.now work.old.fill right }
+    ensures gives { Gives work.old.bytes.now work.old.fill (assigned_in work.old.limits op (room work.old.fill work.old.bytes.now) (meant work.old.bytes.now left.old) (meant work.old.bytes.now right)) (bind result (λ _. Ok left.new)) work.new.bytes.now work.new.fill }
+    ensures kept { Kept work.old work.new }
 {
-    let made = operate_assign(
-        op,
-        as_operand(*left),
-        as_operand(right),
-        limits,
-        work,
-        *fill,
-    )?;
-    *fill = end_of(made, *fill);
-    *left = pick(made, *left, right);
+    *left = apply_held::<FnAssign>(op, *left, right, work)?;
     Ok(())
 }

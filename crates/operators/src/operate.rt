@@ -1,47 +1,24 @@
 // An operator on two operands: the routine of its row, or a refusal where it has none.
-ghost use Rattle.std.specs.Prelude.{◌≡◌, ◌≤◌, length};
 ghost use Rattle.routines.specs.Outcomes.{operand, Ready, Settles};
-ghost use Rattle.operators.specs.Applied.{applied, applied_assign};
+ghost use Rattle.routines.specs.Works.{Kept};
+ghost use Rattle.operators.specs.Applied.{applied_by};
 
 use fault::Fault;
-use routines::{Limits, Made, Operand, call, call_assign};
-use rows::{get_builtin_binary_op_fn, get_builtin_op_assignment_fn};
+use routines::{Call, Made, Operand, Work};
 use value::Op;
 
-pub(crate) fn operate(
+pub(crate) fn operate<R: Call>(
     op: Op,
     a: Operand,
     b: Operand,
-    limits: Limits,
-    work: &mut [u8],
-    fill: usize,
+    work: &mut Work,
 ) -> Result<Made, Fault>
-    requires left { Ready work.old fill a }
-    requires right { Ready work.old fill b }
-    requires inside { fill ≤ length work.old }
-    ensures { Settles work.old fill (applied limits op (operand work.old a.entry) (operand work.old b.entry)) result work.new }
+    requires left { Ready work.old.bytes.now work.old.fill a }
+    requires right { Ready work.old.bytes.now work.old.fill b }
+    ensures settles { Settles work.old.bytes.now work.old.fill (applied_by R.finds R.does work.old.limits op (operand work.old.bytes.now a.entry) (operand work.old.bytes.now b.entry)) result work.new.bytes.now work.new.fill }
+    ensures kept { Kept work.old work.new }
 {
-    match get_builtin_binary_op_fn(op, a.kind(), b.kind()) {
-        Some(f) => call(f, a, b, limits, work, fill),
-        None => Err(Fault::NoRow),
-    }
-}
-
-pub(crate) fn operate_assign(
-    op: Op,
-    a: Operand,
-    b: Operand,
-    limits: Limits,
-    work: &mut [u8],
-    fill: usize,
-) -> Result<Made, Fault>
-    requires left { Ready work.old fill a }
-    requires right { Ready work.old fill b }
-    requires inside { fill ≤ length work.old }
-    ensures { Settles work.old fill (applied_assign limits op (operand work.old a.entry) (operand work.old b.entry)) result work.new }
-{
-    match get_builtin_op_assignment_fn(op, a.kind(), b.kind()) {
-        Some(f) => call_assign(f, a, b, limits, work, fill),
-        None => Err(Fault::NoRow),
-    }
+    R::find(op, a.kind(), b.kind())
+        .ok_or(Fault::NoRow)?
+        .call(a, b, work)
 }

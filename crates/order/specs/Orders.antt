@@ -1,6 +1,8 @@
 -- What comparing means: the four answers, the six comparisons on an answer, and the orders of numbers, truth values,
 -- optional values and sequences. Assumes nothing.
 use Rattle.std.specs.Prelude.{ℕ, Bool, true, false, not, ◌||◌, List, [], ◌∷◌, ℤ, Some, None, Option, int_lt, nat_lt}
+use Rattle.std.specs.declared.cmp.Ordering.{Ordering}
+use Rattle.std.specs.declared.cmp.Ordering.TheVariants as ordering
 use Rattle.order.specs.declared.traits.Order.{Order}
 use Rattle.order.specs.declared.traits.Order.TheVariants.{Less, Equal, Greater, Unordered}
 use Rattle.order.specs.declared.comparison.Comparison.{Comparison}
@@ -12,6 +14,12 @@ order_number Less = 0
 order_number Equal = 1
 order_number Greater = 2
 order_number Unordered = 3
+
+-- the answer of a total comparison
+abbrev pub ordered : Ordering → Order
+ordered ordering.Less = Less
+ordered ordering.Equal = Equal
+ordered ordering.Greater = Greater
 
 -- the answer for the exchanged pair
 abbrev pub exchanged : Order → Order

@@ -1,105 +1,73 @@
-// The orders of whole numbers, bytes, characters and truth values.
-ghost use Rattle.std.specs.Prelude.{◌≡◌};
-ghost use Rattle.order.specs.Orders.{by_nat, by_int, by_bool};
+// The orders of whole numbers, bytes, characters and truth values: each has a rank, and the rank decides.
+ghost use Rattle.std.specs.Prelude.{◌≡◌, ℤ, cond, pos};
+ghost use Rattle.order.specs.Orders.{by_int};
 ghost use Rattle.std.proofs.Common.{rules};
 
 use crate::traits::{Comparing, Order, TotalOrder};
 
-macro_rules! ranked {
-    ($x:expr, $y:expr) => {
-        if $x < $y {
-            Order::Less
-        } else if $y < $x {
-            Order::Greater
-        } else {
-            Order::Equal
-        }
-    };
+// Values that stand in one line, each at a place of its own.
+pub trait Ranked: Copy {
+    ghost place: { Self → ℤ };
+
+    fn rank(self) -> i64
+        ensures { result ≡ place self };
+
+    ghost apart: { (x y : Self) → place x ≡ place y → x ≡ y };
 }
 
-impl Comparing for i64 {
-    ghost order = { by_int };
+impl Ranked for i64 {
+    ghost place = { λ n. n };
 
-    ghost exchange = { Prim.search rules };
+    ghost apart = { Prim.search rules };
 
-    fn compare(&self, other: &i64) -> Order {
-        ranked!(*self, *other)
+    fn rank(self) -> i64 {
+        self
     }
 }
 
-impl Comparing for u8 {
-    ghost order = { by_nat };
+impl Ranked for u8 {
+    ghost place = { pos };
 
-    ghost exchange = { Prim.search rules };
+    ghost apart = { Prim.search rules };
 
-    fn compare(&self, other: &u8) -> Order {
-        ranked!(*self, *other)
+    fn rank(self) -> i64 {
+        self.into()
     }
 }
 
-impl Comparing for char {
-    ghost order = { by_nat };
+impl Ranked for char {
+    ghost place = { pos };
 
-    ghost exchange = { Prim.search rules };
+    ghost apart = { Prim.search rules };
 
-    fn compare(&self, other: &char) -> Order {
-        ranked!(*self, *other)
+    fn rank(self) -> i64 {
+        u32::from(self).into()
     }
 }
 
 // False comes before true.
-impl Comparing for bool {
-    ghost order = { by_bool };
+impl Ranked for bool {
+    ghost place = { λ b. pos (cond b 1 0) };
 
-    ghost exchange = { Prim.search rules };
+    ghost apart = { Prim.search rules };
 
-    fn compare(&self, other: &bool) -> Order {
-        match (*self, *other) {
-            (false, true) => Order::Less,
-            (true, false) => Order::Greater,
-            _ => Order::Equal,
-        }
+    fn rank(self) -> i64 {
+        i64::from(self)
     }
 }
 
-impl TotalOrder for i64 {
-    ghost total = { by_int };
+impl<T: Ranked> Comparing for T {
+    ghost order = { λ x y. by_int (T.place x) (T.place y) };
 
-    ghost agrees = { Prim.search rules };
+    ghost exchange = { Prim.search rules };
 
-    ghost decided = { Prim.search rules };
-
-    ghost identical = { Prim.search rules };
-
-    ghost transitive = { Prim.search rules };
+    fn compare(&self, other: &T) -> Order {
+        self.rank().cmp(&other.rank()).into()
+    }
 }
 
-impl TotalOrder for u8 {
-    ghost total = { by_nat };
-
-    ghost agrees = { Prim.search rules };
-
-    ghost decided = { Prim.search rules };
-
-    ghost identical = { Prim.search rules };
-
-    ghost transitive = { Prim.search rules };
-}
-
-impl TotalOrder for char {
-    ghost total = { by_nat };
-
-    ghost agrees = { Prim.search rules };
-
-    ghost decided = { Prim.search rules };
-
-    ghost identical = { Prim.search rules };
-
-    ghost transitive = { Prim.search rules };
-}
-
-impl TotalOrder for bool {
-    ghost total = { by_bool };
+impl<T: Ranked> TotalOrder for T {
+    ghost total = { λ x y. by_int (T.place x) (T.place y) };
 
     ghost agrees = { Prim.search rules };
 

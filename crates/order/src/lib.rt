@@ -7,6 +7,7 @@ pub mod optional;
 pub mod sequence;
 pub mod traits;
 
+pub use basic::Ranked;
 pub use comparison::{Comparison, holds, satisfied};
 pub use sequence::compare_sequences;
 pub use traits::{Comparing, Order, TotalOrder};

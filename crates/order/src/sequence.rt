@@ -13,11 +13,5 @@ pub fn compare_sequences<T: TotalOrder>(a: &[T], b: &[T]) -> Order
             decided => return decided,
         }
     }
-    if a.len() < b.len() {
-        Order::Less
-    } else if b.len() < a.len() {
-        Order::Greater
-    } else {
-        Order::Equal
-    }
+    a.len().cmp(&b.len()).into()
 }

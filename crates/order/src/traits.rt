@@ -1,8 +1,11 @@
 // What comparing two values answers, and the two traits for it.
 ghost use Rattle.std.specs.Prelude.{◌≡◌, ◌≢◌};
 ghost use Rattle.order.specs.declared.traits.Order.{Order};
-ghost use Rattle.order.specs.Orders.{exchanged, order_number};
+ghost use Rattle.order.specs.Orders.{exchanged, order_number, ordered};
 
+use std::cmp::Ordering;
+
+// Kept apart from Option<Ordering>: a program in C reads the four answers by their numbers.
 #[derive(Clone, Copy, PartialEq, Eq, Debug)]
 pub enum Order {
     Less,
@@ -11,11 +14,36 @@ pub enum Order {
     Unordered,
 }
 
+impl From<Order> for u8 {
+    ghost from_gives = { λ o n. n ≡ order_number o };
+
+    fn from(order: Order) -> u8 {
+        order as u8
+    }
+}
+
+impl From<Ordering> for Order {
+    ghost from_gives = { λ o r. r ≡ ordered o };
+
+    fn from(ordering: Ordering) -> Order {
+        match ordering {
+            Ordering::Less => Order::Less,
+            Ordering::Equal => Order::Equal,
+            Ordering::Greater => Order::Greater,
+        }
+    }
+}
+
 impl Order {
-    pub fn number(self) -> u8
-        ensures { result ≡ order_number self }
+    // The order of the exchanged pair.
+    pub fn reverse(self) -> Order
+        ensures { result ≡ exchanged self }
     {
-        self as u8
+        match self {
+            Order::Less => Order::Greater,
+            Order::Greater => Order::Less,
+            other => other,
+        }
     }
 }
 

@@ -11,8 +11,7 @@ use value::{Op, Value};
 
 // A shelf whose tables, without room for texts, share out the records.
 pub trait Share<'a>: Shelf + Sized {
-    fn share(records: &'a mut [Record]) -> Self
-        ensures { Self.sound result };
+    fn share(records: &'a mut [Record]) -> Self;
 }
 
 impl<'a> Share<'a> for Table<'a> {
@@ -30,9 +29,7 @@ impl<'a, P: Share<'a>, Q: Share<'a>> Share<'a> for Joined<P, Q> {
 }
 
 // Calls on the last slots that any shelf shows, with a seam between them, and behind these.
-fn hold_last<S: Shelf + Drop>(rt: &HostRuntime, pile: S) -> io::Result<()>
-    requires { S.sound pile }
-{
+fn hold_last<S: Shelf + Drop>(rt: &HostRuntime, pile: S) -> io::Result<()> {
     let calls = [
         Call::Count,
         Call::Post {

@@ -1,2 +1,2 @@
 pub mod Laws
-mod Limited
+mod Joined

@@ -31,7 +31,7 @@ use Rattle.routines.specs.declared.made.TextKind.TheVariants.{Str as StrText, Bl
 use Rattle.routines.specs.declared.made.TextRule.{TextRule}
 use Rattle.routines.specs.declared.made.TextRule.TheVariants as rule
 use Rattle.routines.specs.declared.made.Choice.{Choice}
-use Rattle.routines.specs.declared.made.Choice.TheVariants.{Left, Right, Refuse, Join}
+use Rattle.routines.specs.declared.made.Choice.TheVariants.{Left, Right, Join}
 
 -- an operand is given back, or there is a new value
 pub data Given : Type 0 where
@@ -175,21 +175,20 @@ abbrev pub grown : ℕ → TextKind → List ℕ → Result Given Fault
 grown limit k bs = unless (allowed limit (length bs)) OverLimit (fresh (typed k bs))
 
 -- what becomes of two texts of m and n bytes
-abbrev pub choice : Limits → TextRule → ℕ → ℕ → Choice
-choice l (rule.Both k) m n = Join k (limit_for k l)
-choice l (rule.Append k) m n = cond (n == 0) Left (Join k (limit_for k l))
-choice l rule.JoinBlobs m n = cond (n == 0) Left (cond (m == 0) Right (Join BlobText l.blob))
-choice l rule.ExtendStr m n = cond (n == 0) Left (Join StrText (cond (m == 0) 0 l.string))
-choice l rule.ExtendBlob m n = cond (n == 0) (cond (allowed l.blob m) Left Refuse) (Join BlobText l.blob)
+abbrev pub choice : Limits → TextRule → ℕ → ℕ → Result Choice Fault
+choice l (rule.Both k) m n = Ok (Join k (limit_for k l))
+choice l (rule.Append k) m n = Ok (cond (n == 0) Left (Join k (limit_for k l)))
+choice l rule.JoinBlobs m n = Ok (cond (n == 0) Left (cond (m == 0) Right (Join BlobText l.blob)))
+choice l rule.ExtendStr m n = Ok (cond (n == 0) Left (Join StrText (cond (m == 0) 0 l.string)))
+choice l rule.ExtendBlob m n = cond (n == 0) (unless (allowed l.blob m) OverLimit Left) (Ok (Join BlobText l.blob))
 
-abbrev pub chosen : Choice → List ℕ → Result Given Fault
-chosen Left bs = Ok left
-chosen Right bs = Ok right
-chosen Refuse bs = Err OverLimit
-chosen (Join k limit) bs = grown limit k bs
+abbrev pub chosen : List ℕ → Choice → Result Given Fault
+chosen bs Left = Ok left
+chosen bs Right = Ok right
+chosen bs (Join k limit) = grown limit k bs
 
 abbrev pub joined_by : Limits → TextRule → List ℕ → List ℕ → Result Given Fault
-joined_by l r x y = chosen (choice l r (length x) (length y)) (x ++ y)
+joined_by l r x y = bind (choice l r (length x) (length y)) (chosen (x ++ y))
 
 abbrev pub called : Limits → FnBuiltin → Meaning → Meaning → Result Given Fault
 called l (builtin.Int f) a b = of as_int a b (λ x y. bind (computed f x y) (λ z. Ok (fresh (int z))))

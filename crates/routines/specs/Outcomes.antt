@@ -1,10 +1,11 @@
 -- What a call answers and leaves in the work buffer: an operand given back and a value without text write nothing, a new text
 -- goes to `fill`, or is refused where it would pass the end. Assumes nothing.
-use Rattle.std.specs.Prelude.{◌≡◌, ℕ, true, cond, List, length, Some, None, Ok, Err, Option, Result}
+use Rattle.std.specs.Prelude.{◌≡◌, ℕ, ◌+◌, true, List, Some, None, Ok, Err, Option, Result}
 use Rattle.fault.specs.Refusals.{bind}
 use Rattle.fault.specs.declared.Fault.{Fault}
-use Rattle.fault.specs.declared.Fault.TheVariants.{OverLimit}
-use Rattle.text.specs.Buffers.{Stored, stored}
+use Rattle.order.specs.Orders.{satisfies}
+use Rattle.order.specs.declared.traits.Order.{Order}
+use Rattle.order.specs.declared.comparison.Comparison.{Comparison}
 use Rattle.text.specs.Pieces.{text_bytes, piece_bytes, TextBelow, Below}
 use Rattle.text.specs.declared.span.Span.{Span}
 use Rattle.text.specs.declared.piece.Text.{Text}
@@ -18,7 +19,7 @@ use Rattle.routines.specs.declared.made.TextKind.TheVariants.{Str as StrText, Bl
 use Rattle.routines.specs.declared.made.Limits.{Limits}
 use Rattle.routines.specs.declared.made.Made.{Made}
 use Rattle.routines.specs.declared.made.Made.TheVariants.{Left, Right, New}
-use Rattle.routines.specs.Calls.{Given, left, right, fresh, allowed, called, of, as_bytes}
+use Rattle.routines.specs.Calls.{Given, left, right, fresh, called, of, as_bytes}
 
 -- what an operand means beside the work buffer
 abbrev pub operand : List ℕ → Value Text → Meaning
@@ -33,10 +34,6 @@ pub record Ready (work : List ℕ) (fill : ℕ) (v : Value Text) : Type 0 where
   pub below : TextReady fill (text_in v)
   pub formed : well_formed (operand work v) ≡ true
 
--- writing a new text x at `fill`, unless it is over the limit
-abbrev pub limited : ℕ → List ℕ → ℕ → List ℕ → Stored
-limited limit work fill x = cond (allowed limit (length x)) (stored work fill x) (record { answer = Err OverLimit; bytes = work })
-
 pub record Outcome : Type 0 where
   pub answer : Result Made Fault
   pub bytes : List ℕ
@@ -47,18 +44,34 @@ settled work fill (Ok left) = record { answer = Ok Left; bytes = work }
 settled work fill (Ok right) = record { answer = Ok Right; bytes = work }
 settled work fill (Ok (fresh m)) = record { answer = bind (told_at work fill m).answer (λ v. Ok (New v)); bytes = (told_at work fill m).bytes }
 
--- a call that comes to `given` answers r and leaves these bytes
-pub record Settles (work : List ℕ) (fill : ℕ) (given : Result Given Fault) (r : Result Made Fault) (after : List ℕ) : Type 0 where
+-- where the next text goes, once a value's text, if it has one, is the last
+abbrev pub behind : ℕ → Option Span → ℕ
+behind fill None = fill
+behind fill (Some s) = s.start + s.len
+
+abbrev pub filled : ℕ → Result Made Fault → ℕ
+filled fill (Err f) = fill
+filled fill (Ok Left) = fill
+filled fill (Ok Right) = fill
+filled fill (Ok (New v)) = behind fill (text_in v)
+
+-- a call that comes to `given` answers r, leaves these bytes, and the next text goes to `fill'`
+pub record Settles (work : List ℕ) (fill : ℕ) (given : Result Given Fault) (r : Result Made Fault) (after : List ℕ) (fill' : ℕ) : Type 0 where
   pub answer : r ≡ (settled work fill given).answer
   pub bytes : after ≡ (settled work fill given).bytes
+  pub next : fill' ≡ filled fill r
 
 -- the routine f answers r and writes nothing, wherever a new text would go
 abbrev pub Reads : List ℕ → FnBuiltin → Value Text → Value Text → Result Made Fault → Type 0
-Reads work f a b r = (l : Limits) (fill : ℕ) → Settles work fill (called l f (operand work a) (operand work b)) r work
+Reads work f a b r = (l : Limits) (fill : ℕ) → Settles work fill (called l f (operand work a) (operand work b)) r work fill
 
 -- the same wherever the operands' texts are
 abbrev pub Plainly : FnBuiltin → Value Text → Value Text → Result Made Fault → Type 0
 Plainly f a b r = (work : List ℕ) → Reads work f a b r
+
+-- how two readings compare, where both are there
+abbrev pub compared : {A : Type 0} → (A → A → Order) → Comparison → Result A Fault → Result A Fault → Result Made Fault
+compared order c x y = bind x (λ x. bind y (λ y. Ok (New (value.Bool (satisfies c (order x y))))))
 
 abbrev pub valued : TextKind → Span → Value Span
 valued StrText s = value.Str s

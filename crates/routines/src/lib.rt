@@ -7,6 +7,8 @@ pub mod made;
 pub mod operand;
 pub mod plain;
 pub mod texts;
+pub mod work;
 
-pub use calls::{call, call_assign};
+pub use calls::Call;
 pub use made::{Limits, Made, Operand};
+pub use work::Work;

@@ -1,6 +1,7 @@
 // What an operator gives, and the limits on the size of new texts.
 ghost use Rattle.std.specs.Prelude.{◌≡◌, ◌+◌};
-ghost use Rattle.routines.specs.Calls.{allowed};
+ghost use Rattle.routines.specs.Calls.{allowed, limit_for};
+ghost use Rattle.routines.specs.Outcomes.{valued};
 
 use text::{Span, Text};
 use value::Value;
@@ -23,6 +24,26 @@ pub enum TextKind {
     Blob,
 }
 
+impl TextKind {
+    pub(crate) fn limit(self, limits: Limits) -> usize
+        ensures { result ≡ limit_for self limits }
+    {
+        match self {
+            TextKind::Str => limits.string,
+            TextKind::Blob => limits.blob,
+        }
+    }
+
+    pub(crate) fn value(self, span: Span) -> Value<Span>
+        ensures { result ≡ valued self span }
+    {
+        match self {
+            TextKind::Str => Value::Str(span),
+            TextKind::Blob => Value::Blob(span),
+        }
+    }
+}
+
 // How two operands become one text.
 #[derive(Clone, Copy)]
 pub enum TextRule {
@@ -38,16 +59,15 @@ pub enum TextRule {
     ExtendBlob,
 }
 
-// What becomes of two texts: one of them is given back, they are joined within a limit, or they are over it.
+// What becomes of two texts: one of them is given back, or they are joined within a limit.
 #[derive(Clone, Copy)]
 pub enum Choice {
     Left,
     Right,
-    Refuse,
     Join { kind: TextKind, limit: usize },
 }
 
-// The most bytes that a new str or a new blob may have; 0 is no limit.
+// The most bytes that a new str or a new blob may have; 0 is no limit, as it is in rhai's own settings.
 #[derive(Clone, Copy, PartialEq, Eq, Debug)]
 pub struct Limits {
     pub string: usize,

@@ -1,15 +1,15 @@
 // The routines on numbers, truth values and ranges. They read no text and write none.
-ghost use Rattle.std.specs.Prelude.{◌≡◌, ◌&&◌};
+ghost use Rattle.std.specs.Prelude.{◌≡◌};
 ghost use Rattle.rows.specs.declared.routine.FnBuiltin.TheVariants as builtin;
 ghost use Rattle.value.specs.Values.{held_at};
-ghost use Rattle.routines.specs.Calls.{logical, same_int, ranged};
-ghost use Rattle.routines.specs.Outcomes.{Plainly};
+ghost use Rattle.routines.specs.Calls.{logical, ranged};
+ghost use Rattle.routines.specs.Outcomes.{Plainly, compared};
 
 use crate::made::{Made, Operand};
 use crate::operand::*;
 use fault::Fault;
-use float::{Float, FloatArithmetic, compute_float};
-use order::{Comparison, holds};
+use float::{FloatArithmetic, compute_float};
+use order::{Comparing, Comparison, holds};
 use rows::{Logic, RangeKind};
 use text::Span;
 use value::{Range, Value};
@@ -43,34 +43,21 @@ pub(crate) fn call_bools(f: Logic, a: Operand, b: Operand) -> Result<Made, Fault
     Ok(Made::New(Value::Bool(decide(f, as_bool(a)?, as_bool(b)?))))
 }
 
-pub(crate) fn compare_ints(c: Comparison, a: Operand, b: Operand) -> Result<Made, Fault>
-    ensures { Plainly (builtin.CompareInts c) a.entry b.entry result }
+// Two readings, compared where both are there.
+pub(crate) fn compare<T: Comparing + Drop>(
+    c: Comparison,
+    x: Result<T, Fault>,
+    y: Result<T, Fault>,
+) -> Result<Made, Fault>
+    ensures { result ≡ compared T.order c x y }
 {
-    Ok(Made::New(Value::Bool(holds(c, &as_int(a)?, &as_int(b)?))))
-}
-
-pub(crate) fn compare_floats(c: Comparison, a: Operand, b: Operand) -> Result<Made, Fault>
-    ensures { Plainly (builtin.CompareFloats c) a.entry b.entry result }
-{
-    Ok(Made::New(Value::Bool(holds(c, &Float(as_float(a)?), &Float(as_float(b)?)))))
-}
-
-pub(crate) fn compare_bools(c: Comparison, a: Operand, b: Operand) -> Result<Made, Fault>
-    ensures { Plainly (builtin.CompareBools c) a.entry b.entry result }
-{
-    Ok(Made::New(Value::Bool(holds(c, &as_bool(a)?, &as_bool(b)?))))
-}
-
-fn equal_ends(x: Range, y: Range) -> bool
-    ensures { result ≡ (same_int x.from y.from && same_int x.to y.to) }
-{
-    x.from == y.from && x.to == y.to
+    Ok(Made::New(Value::Bool(holds(c, &x?, &y?))))
 }
 
 pub(crate) fn equal_ranges(asked: bool, a: Operand, b: Operand) -> Result<Made, Fault>
     ensures { Plainly (builtin.EqualRanges asked) a.entry b.entry result }
 {
-    Ok(Made::New(Value::Bool(equal_ends(as_range(a)?, as_range(b)?) == asked)))
+    Ok(Made::New(Value::Bool((as_range(a)? == as_range(b)?) == asked)))
 }
 
 fn range_value(kind: RangeKind, from: i64, to: i64) -> Value<Span>

@@ -1,20 +1,30 @@
 // Texts as operands: their order, their bytes, and new texts made of two of them.
-ghost use Rattle.std.specs.Prelude.{◌≡◌, ℕ, ◌≤◌, List, ◌++◌, length, IfOk, Ok};
+ghost use Rattle.std.specs.Prelude.{◌≡◌, ℕ, true, ◌≤◌, List, ◌++◌, length, IfOk, Ok};
 ghost use Rattle.std.specs.Str.{bytes_eq};
 ghost use Rattle.fault.specs.Refusals.{bind};
-ghost use Rattle.text.specs.Pieces.{text_bytes, piece_bytes, Below};
-ghost use Rattle.text.specs.Scalars.{by_scalars};
+ghost use Rattle.text.specs.Pieces.{text_bytes, piece_bytes, TextBelow, Below};
+ghost use Rattle.text.specs.Scalars.{utf8, by_scalars};
 ghost use Rattle.value.specs.Values.{meaning, text_in};
-ghost use Rattle.routines.specs.Calls.{as_bytes, as_blob, as_scalars, of, grown};
-ghost use Rattle.routines.specs.Outcomes.{operand, Ready, TextReady, limited, Settles, valued, Pieced};
+ghost use Rattle.routines.specs.Calls.{as_bytes, as_blob, as_scalars, of, fresh, typed};
+ghost use Rattle.routines.specs.Outcomes.{operand, Ready, TextReady, Settles, Pieced};
+ghost use Rattle.routines.specs.Works.{Kept};
 
-use crate::made::{Made, Operand, TextKind, is_allowed};
+use crate::made::{Made, Operand, TextKind};
+use crate::work::Work;
 use fault::Fault;
 use order::{Comparing, Order};
-use text::{
-    Piece, Span, compare_char_text, compare_text_char, compare_texts, join, piece_len, text_bytes,
-};
+use std::str::from_utf8_unchecked;
+use text::{Piece, Text, compare_char_text, compare_text_char, compare_texts, join, text_bytes};
 use value::Value;
+
+// The text of a str, which is UTF-8.
+fn text_str<'a>(work: &'a [u8], text: Text<'a>) -> &'a str
+    requires below { TextBelow (length work.now) text }
+    requires utf8 { utf8 (text_bytes work.now text) ≡ true }
+    ensures { result.now ≡ text_bytes work.now text.entry }
+{
+    unsafe { from_utf8_unchecked(text_bytes(work, text)) }
+}
 
 // The order of two texts, each a char or a str.
 pub(crate) fn order_letters(work: &[u8], a: Operand, b: Operand) -> Result<Order, Fault>
@@ -24,12 +34,9 @@ pub(crate) fn order_letters(work: &[u8], a: Operand, b: Operand) -> Result<Order
 {
     match (a, b) {
         (Value::Char(c), Value::Char(d)) => Ok(c.compare(&d)),
-        (Value::Str(s), Value::Str(t)) => Ok(compare_texts(
-            text_bytes(work, s),
-            text_bytes(work, t),
-        )),
-        (Value::Char(c), Value::Str(t)) => Ok(compare_char_text(c, text_bytes(work, t))),
-        (Value::Str(s), Value::Char(d)) => Ok(compare_text_char(text_bytes(work, s), d)),
+        (Value::Str(s), Value::Str(t)) => Ok(compare_texts(text_str(work, s), text_str(work, t))),
+        (Value::Char(c), Value::Str(t)) => Ok(compare_char_text(c, text_str(work, t))),
+        (Value::Str(s), Value::Char(d)) => Ok(compare_text_char(text_str(work, s), d)),
         _ => Err(Fault::NoRow),
     }
 }
@@ -40,15 +47,9 @@ pub(crate) fn equal_blobs(work: &[u8], a: Operand, b: Operand) -> Result<bool, F
     ensures { result ≡ of as_blob (operand work.now a.entry) (operand work.now b.entry) (λ x y. Ok (bytes_eq x y)) }
 {
     match (a, b) {
-        (Value::Blob(s), Value::Blob(t)) => Ok(same(text_bytes(work, s), text_bytes(work, t))),
+        (Value::Blob(s), Value::Blob(t)) => Ok(text_bytes(work, s) == text_bytes(work, t)),
         _ => Err(Fault::NoRow),
     }
-}
-
-fn same(x: &[u8], y: &[u8]) -> bool
-    ensures { result ≡ bytes_eq x.now y.now }
-{
-    x == y
 }
 
 // What an operand brings to a text.
@@ -70,43 +71,14 @@ pub(crate) fn as_pieces<'a>(a: Operand<'a>, b: Operand<'a>) -> Result<(Piece<'a>
     Ok((as_piece(a)?, as_piece(b)?))
 }
 
-// The part of the work buffer that a new text of two pieces gets, unless it is over the limit.
-fn grow(limit: usize, work: &mut [u8], fill: usize, p: Piece, q: Piece) -> Result<Span, Fault>
-    requires left { Below fill p }
-    requires right { Below fill q }
-    requires inside { fill ≤ length work.old }
-    ensures answer { result ≡ (limited limit work.old fill (piece_bytes work.old p.entry ++ piece_bytes work.old q.entry)).answer }
-    ensures bytes { work.new ≡ (limited limit work.old fill (piece_bytes work.old p.entry ++ piece_bytes work.old q.entry)).bytes }
+// A new text of two pieces, behind the others in the work buffer.
+pub(crate) fn new_text(kind: TextKind, work: &mut Work, p: Piece, q: Piece) -> Result<Made, Fault>
+    requires left { Below work.old.fill p }
+    requires right { Below work.old.fill q }
+    ensures settles { Settles work.old.bytes.now work.old.fill (Ok (fresh (typed kind (piece_bytes work.old.bytes.now p.entry ++ piece_bytes work.old.bytes.now q.entry)))) result work.new.bytes.now work.new.fill }
+    ensures kept { Kept work.old work.new }
 {
-    if is_allowed(limit, piece_len(work, p), piece_len(work, q)) {
-        join(work, fill, p, q)
-    } else {
-        Err(Fault::OverLimit)
-    }
-}
-
-fn text_value(kind: TextKind, span: Span) -> Value<Span>
-    ensures { result ≡ valued kind span }
-{
-    match kind {
-        TextKind::Str => Value::Str(span),
-        TextKind::Blob => Value::Blob(span),
-    }
-}
-
-// A new text of two pieces.
-pub(crate) fn new_text(
-    kind: TextKind,
-    limit: usize,
-    work: &mut [u8],
-    fill: usize,
-    p: Piece,
-    q: Piece,
-) -> Result<Made, Fault>
-    requires left { Below fill p }
-    requires right { Below fill q }
-    requires inside { fill ≤ length work.old }
-    ensures { Settles work.old fill (grown limit kind (piece_bytes work.old p.entry ++ piece_bytes work.old q.entry)) result work.new }
-{
-    Ok(Made::New(text_value(kind, grow(limit, work, fill, p, q)?)))
+    let span = join(work.bytes, work.fill, p, q)?;
+    work.fill += span.len;
+    Ok(Made::New(kind.value(span)))
 }

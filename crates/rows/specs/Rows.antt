@@ -152,9 +152,13 @@ assign_row_of op a b =
     cond (both kind.Blob a b) (plus assign.BlobByBlob op) (
     cond (is_kind a kind.Blob && (is_kind b kind.Int || is_letters b)) (plus assign.BlobByOther op) None))))))))
 
--- SELECT and its assigning form
+-- SELECT, by the routines that a form of operators finds and the kinds that these can give
+abbrev pub selected_by : {R : Type 0} → (Op → Kind → Kind → Option R) → (R → KindSet) → Op → Kind → Kind → Result KindSet Fault
+selected_by finds gives op a b = ok_or (option_map gives (finds op a b)) NoRow
+
+-- of the binary and of the assigning form
 abbrev pub selected : Op → Kind → Kind → Result KindSet Fault
-selected op a b = ok_or (option_map results (row_of op a b)) NoRow
+selected op a b = selected_by row_of results op a b
 
 abbrev pub assign_selected : Op → Kind → Kind → Result KindSet Fault
-assign_selected op a b = ok_or (option_map assign_results (assign_row_of op a b)) NoRow
+assign_selected op a b = selected_by assign_row_of assign_results op a b

@@ -1,72 +1,53 @@
 // The routine of a binary operator for two kinds, in the order of rhai's `get_builtin_binary_op_fn`.
 ghost use Rattle.std.specs.Prelude.{◌≡◌};
 ghost use Rattle.rows.specs.Rows.{row_of, int_row, float_row, bool_row, text_row, blob_row, unit_row, range_row, unlike_row, differing_row};
+ghost use Rattle.rows.specs.Routines.{results};
 
 use crate::choice;
-use crate::routine::FnBuiltin;
+use crate::routine::{FnBuiltin, RangeKind, Routine};
 use order::Comparison;
-use value::{Kind, Op};
+use value::{Kind, KindSet, Op};
 
 fn int_row(op: Op) -> Option<FnBuiltin>
     ensures { result ≡ int_row op }
 {
-    if let Some(f) = choice::arithmetic(op) {
-        return Some(FnBuiltin::Int(f));
-    }
-    if let Some(c) = choice::comparison(op) {
-        return Some(FnBuiltin::CompareInts(c));
-    }
-    match choice::range(op) {
-        Some(kind) => Some(FnBuiltin::Range(kind)),
-        None => None,
-    }
+    choice::arithmetic(op)
+        .map(FnBuiltin::Int)
+        .or_else(|| choice::comparison(op).map(FnBuiltin::CompareInts))
+        .or_else(|| choice::range(op).map(FnBuiltin::Range))
 }
 
 fn float_row(op: Op) -> Option<FnBuiltin>
     ensures { result ≡ float_row op }
 {
-    if let Some(f) = choice::float(op) {
-        return Some(FnBuiltin::Float(f));
-    }
-    match choice::comparison(op) {
-        Some(c) => Some(FnBuiltin::CompareFloats(c)),
-        None => None,
-    }
+    choice::float(op)
+        .map(FnBuiltin::Float)
+        .or_else(|| choice::comparison(op).map(FnBuiltin::CompareFloats))
 }
 
 fn bool_row(op: Op) -> Option<FnBuiltin>
     ensures { result ≡ bool_row op }
 {
-    if let Some(f) = choice::logic(op) {
-        return Some(FnBuiltin::Bool(f));
-    }
-    match choice::comparison(op) {
-        Some(c) => Some(FnBuiltin::CompareBools(c)),
-        None => None,
-    }
+    choice::logic(op)
+        .map(FnBuiltin::Bool)
+        .or_else(|| choice::comparison(op).map(FnBuiltin::CompareBools))
 }
 
 fn text_row(op: Op) -> Option<FnBuiltin>
     ensures { result ≡ text_row op }
 {
-    if let Op::Plus = op {
-        return Some(FnBuiltin::Concat);
-    }
-    match choice::comparison(op) {
-        Some(c) => Some(FnBuiltin::CompareTexts(c)),
-        None => None,
+    match op {
+        Op::Plus => Some(FnBuiltin::Concat),
+        _ => choice::comparison(op).map(FnBuiltin::CompareTexts),
     }
 }
 
 fn blob_row(op: Op) -> Option<FnBuiltin>
     ensures { result ≡ blob_row op }
 {
-    if let Op::Plus = op {
-        return Some(FnBuiltin::ConcatBlobs);
-    }
-    match choice::equality(op) {
-        Some(asked) => Some(FnBuiltin::EqualBlobs(asked)),
-        None => None,
+    match op {
+        Op::Plus => Some(FnBuiltin::ConcatBlobs),
+        _ => choice::equality(op).map(FnBuiltin::EqualBlobs),
     }
 }
 
@@ -74,39 +55,27 @@ fn blob_row(op: Op) -> Option<FnBuiltin>
 fn unit_row(op: Op) -> Option<FnBuiltin>
     ensures { result ≡ unit_row op }
 {
-    match choice::comparison(op) {
-        Some(c) => Some(FnBuiltin::Constant(matches!(c, Comparison::Equals))),
-        None => None,
-    }
+    choice::comparison(op).map(|c| FnBuiltin::Constant(matches!(c, Comparison::Equals)))
 }
 
 fn range_row(op: Op) -> Option<FnBuiltin>
     ensures { result ≡ range_row op }
 {
-    match choice::equality(op) {
-        Some(asked) => Some(FnBuiltin::EqualRanges(asked)),
-        None => None,
-    }
+    choice::equality(op).map(FnBuiltin::EqualRanges)
 }
 
 // Ranges of unequal kinds are not equal.
 fn unlike_row(op: Op) -> Option<FnBuiltin>
     ensures { result ≡ unlike_row op }
 {
-    match choice::equality(op) {
-        Some(asked) => Some(FnBuiltin::Constant(!asked)),
-        None => None,
-    }
+    choice::equality(op).map(|asked| FnBuiltin::Constant(!asked))
 }
 
 // Values of unequal kinds differ, and nothing else.
 fn differing_row(op: Op) -> Option<FnBuiltin>
     ensures { result ≡ differing_row op }
 {
-    match choice::comparison(op) {
-        Some(c) => Some(FnBuiltin::Constant(matches!(c, Comparison::Differs))),
-        None => None,
-    }
+    choice::comparison(op).map(|c| FnBuiltin::Constant(matches!(c, Comparison::Differs)))
 }
 
 pub fn get_builtin_binary_op_fn(op: Op, x: Kind, y: Kind) -> Option<FnBuiltin>
@@ -120,10 +89,9 @@ pub fn get_builtin_binary_op_fn(op: Op, x: Kind, y: Kind) -> Option<FnBuiltin>
         (Kind::Unit, Kind::Unit) => unit_row(op),
         (Kind::Float, Kind::Float) | (Kind::Float, Kind::Int) | (Kind::Int, Kind::Float) =>
             float_row(op),
-        (Kind::Int, Kind::Unit) | (Kind::Unit, Kind::Int) => match choice::range(op) {
-            Some(kind) => Some(FnBuiltin::Range(kind)),
-            None => differing_row(op),
-        },
+        (Kind::Int, Kind::Unit) | (Kind::Unit, Kind::Int) => choice::range(op)
+            .map(FnBuiltin::Range)
+            .or_else(|| differing_row(op)),
         (Kind::Char, Kind::Str) | (Kind::Str, Kind::Char) => text_row(op),
         (Kind::Unit, Kind::Str) => match op {
             Op::Plus => Some(FnBuiltin::Second),
@@ -140,5 +108,27 @@ pub fn get_builtin_binary_op_fn(op: Op, x: Kind, y: Kind) -> Option<FnBuiltin>
         (Kind::Excl, Kind::Excl) | (Kind::Incl, Kind::Incl) => range_row(op),
         (Kind::Excl, Kind::Incl) | (Kind::Incl, Kind::Excl) => unlike_row(op),
         _ => differing_row(op),
+    }
+}
+
+impl Routine for FnBuiltin {
+    ghost finds = { row_of };
+
+    ghost gives = { results };
+
+    fn find(op: Op, x: Kind, y: Kind) -> Option<FnBuiltin> {
+        get_builtin_binary_op_fn(op, x, y)
+    }
+
+    fn results(self) -> KindSet {
+        KindSet::single(match self {
+            FnBuiltin::Int(_) => Kind::Int,
+            FnBuiltin::Float(_) => Kind::Float,
+            FnBuiltin::Range(RangeKind::Exclusive) => Kind::Excl,
+            FnBuiltin::Range(RangeKind::Inclusive) => Kind::Incl,
+            FnBuiltin::Concat | FnBuiltin::First | FnBuiltin::Second => Kind::Str,
+            FnBuiltin::ConcatBlobs | FnBuiltin::AppendChar => Kind::Blob,
+            _ => Kind::Bool,
+        })
     }
 }

@@ -10,5 +10,5 @@ pub mod selection;
 
 pub use assign::get_builtin_op_assignment_fn;
 pub use binary::get_builtin_binary_op_fn;
-pub use routine::{FnAssign, FnBuiltin, Logic, RangeKind};
-pub use selection::{rows_stand, select, select_assign};
+pub use routine::{FnAssign, FnBuiltin, Logic, RangeKind, Routine};
+pub use selection::{rows_stand, select};

@@ -1,10 +1,12 @@
-// The routines that rows name: an enum in the place of rhai's function pointers.
-ghost use Rattle.std.specs.Prelude.{◌≡◌};
-ghost use Rattle.rows.specs.Routines.{results, assign_results};
+// The routines that rows name: enums in the place of rhai's function pointers, which is a rule of this port.
+ghost use Rattle.std.specs.Prelude.{◌≡◌, Option};
+ghost use Rattle.value.specs.declared.kind.Kind.{Kind};
+ghost use Rattle.value.specs.declared.op.Op.{Op};
+ghost use Rattle.value.specs.declared.set.KindSet.{KindSet};
 
 use float::FloatArithmetic;
 use order::Comparison;
-use value::{Kind, KindSet};
+use value::{Kind, KindSet, Op};
 use whole::Arithmetic;
 
 #[derive(Clone, Copy)]
@@ -55,37 +57,17 @@ pub enum FnAssign {
     BlobByOther,
 }
 
-impl FnBuiltin {
-    // The kinds that the routine can give.
-    pub fn results(self) -> KindSet
-        ensures { result ≡ results self }
-    {
-        KindSet::single(match self {
-            FnBuiltin::Int(_) => Kind::Int,
-            FnBuiltin::Float(_) => Kind::Float,
-            FnBuiltin::Range(RangeKind::Exclusive) => Kind::Excl,
-            FnBuiltin::Range(RangeKind::Inclusive) => Kind::Incl,
-            FnBuiltin::Concat | FnBuiltin::First | FnBuiltin::Second => Kind::Str,
-            FnBuiltin::ConcatBlobs | FnBuiltin::AppendChar => Kind::Blob,
-            _ => Kind::Bool,
-        })
-    }
-}
+// The routines of one form, the binary or the assigning one.
+pub trait Routine: Copy {
+    // the routine that an operator has for two kinds
+    ghost finds: { Op → Kind → Kind → Option Self };
 
-impl FnAssign {
-    // The kinds that the left operand can have afterwards.
-    pub fn results(self) -> KindSet
-        ensures { result ≡ assign_results self }
-    {
-        match self {
-            FnAssign::Int(_) => KindSet::single(Kind::Int),
-            FnAssign::Float(_) => KindSet::single(Kind::Float),
-            FnAssign::Bool(_) => KindSet::single(Kind::Bool),
-            FnAssign::StrByStr | FnAssign::StrByChar | FnAssign::CharByChar => KindSet::single(
-                Kind::Str,
-            ),
-            FnAssign::CharByStr => KindSet::single(Kind::Char).union(KindSet::single(Kind::Str)),
-            FnAssign::BlobByBlob | FnAssign::BlobByOther => KindSet::single(Kind::Blob),
-        }
-    }
+    // the kinds that a routine can give: to a binary operator's value, or to the left operand afterwards
+    ghost gives: { Self → KindSet };
+
+    fn find(op: Op, x: Kind, y: Kind) -> Option<Self>
+        ensures { result ≡ finds op x y };
+
+    fn results(self) -> KindSet
+        ensures { result ≡ gives self };
 }

@@ -17,7 +17,7 @@ pub trait Shelf {
     // what the shelf means: its slots in their order
     ghost slots: { Self → List Slot };
 
-    // a proof that the values are well formed
+    // a proof that its values are well formed
     ghost formed: { (x : Self) → all_formed (slots x) ≡ true };
 
     fn count(&self) -> usize

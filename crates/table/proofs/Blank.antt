@@ -1,17 +1,11 @@
 -- A table of blank records.
-use Rattle.std.proofs.Common.{◌≡◌, ℕ, zero, suc, ◌*◌, ◌<◌, ◌≤◌, true, List, ◌∷◌, length, get_or, drop, replicate, is_ok, sym, refl, ap, ◌∙◌, suc-mul, arith, length-drop}
-use lib.ListN.{length-replicate}
-use Rattle.std.proofs.lemmas.List.{ext_get_or, get_or-replicate}
+use Rattle.std.proofs.Common.{◌≡◌, ℕ, zero, suc, ◌*◌, ◌≤◌, true, List, ◌∷◌, length, drop, replicate, is_ok, refl, ap, suc-mul, arith, length-drop}
 use Rattle.std.proofs.lemmas.Bool.{le-leb, and_from}
 use Rattle.std.proofs.lemmas.Bool.Decides.{nat_tests}
 use Rattle.value.specs.Values.{unit}
 use Rattle.shelf.specs.Slots.{slot}
 use Rattle.shelf.specs.declared.mark.Mark.TheVariants.{Open}
-use Rattle.table.specs.declared.record.Record.{Record}
 use Rattle.table.specs.Rows.{rows, blank, whole, tested}
-
-pub all_blank : (rs : List Record) (n : ℕ) → length rs ≡ n → ((k : ℕ) → k < n → get_or rs k blank ≡ blank) → rs ≡ replicate n blank
-all_blank rs n l h = ext_get_or blank rs (replicate n blank) (l ∙ sym (length-replicate n blank)) (λ i lt. let q : i < n = omega arith in h i q ∙ sym (get_or-replicate n i blank blank q))
 
 pub whole_blank : (n : ℕ) (bs : List ℕ) (cap : ℕ) → n * cap ≤ length bs → whole (replicate n blank) bs cap ≡ true
 whole_blank zero bs cap h = refl

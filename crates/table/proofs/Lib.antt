@@ -1,3 +1,5 @@
 mod Rowed
+mod Asked
+mod Lent
 mod Written
 mod Blank

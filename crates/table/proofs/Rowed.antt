@@ -1,14 +1,15 @@
 -- What `rows` and `whole` give at one slot, and after a write to its part.
-use Rattle.std.proofs.Common.{◌≡◌, ℕ, zero, suc, ◌+◌, ◌-◌, ◌*◌, ◌<◌, ◌≤◌, true, leb, List, [], ◌∷◌, length, get_or, take, drop, set, Some, None, sym, refl, ap, ◌∙◌, subst, suc-mul, add_comm, zero-mul, arith, length-drop}
+use Rattle.std.proofs.Common.{◌≡◌, ℕ, zero, suc, ◌+◌, ◌-◌, ◌*◌, ◌≤◌, true, leb, List, [], ◌∷◌, length, take, drop, set, Some, None, sym, refl, ap, ◌∙◌, subst, suc-mul, add_comm, zero-mul, arith, length-drop}
 use Rattle.std.specs.List.{slice_get}
-use Rattle.std.proofs.lemmas.Option.{slice_get-get_or, slice_get_past}
+use Rattle.std.specs.Option.{option_map}
+use Rattle.std.proofs.lemmas.Option.{none-some, same_Some}
 use Rattle.std.proofs.lemmas.List.{drop-drop, drop-take, take-take}
 use Rattle.std.proofs.lemmas.Bool.{and_parts, and_from, leb-true}
 use Rattle.value.specs.Values.{well_formed, text_in}
-use Rattle.shelf.specs.Slots.{Slot, slot}
+use Rattle.shelf.specs.Slots.{slot}
 use Rattle.shelf.specs.declared.mark.Mark.TheVariants.{Open}
 use Rattle.table.specs.declared.record.Record.{Record}
-use Rattle.table.specs.Rows.{meant_by, blank, row, rows, short, whole}
+use Rattle.table.specs.Rows.{meant_by, row, rows, short, whole}
 
 pub length_rows : (rs : List Record) (bs : List ℕ) (cap : ℕ) → length (rows rs bs cap) ≡ length rs
 length_rows [] bs cap = refl
@@ -27,16 +28,17 @@ take_next k cap bs = sym (drop-take cap (k * cap) bs) ∙ ap (λ n. drop cap (ta
 after_next : (k cap : ℕ) (bs : List ℕ) → drop (k * cap + cap) (drop cap bs) ≡ drop (suc k * cap + cap) bs
 after_next k cap bs = drop-drop (k * cap + cap) cap bs ∙ ap (λ n. drop n bs) (omega (arith, suc-mul k cap))
 
-get_d_rows : (rs : List Record) (bs : List ℕ) (cap k : ℕ) (d : Slot) → k < length rs → get_or (rows rs bs cap) k d ≡ row (get_or rs k blank) (drop (k * cap) bs) cap
-get_d_rows [] bs cap k d h = absurd (omega arith)
-get_d_rows (x ∷ rs) bs cap zero d h = ap (λ n. row x (drop n bs) cap) (sym (zero-mul cap))
-get_d_rows (x ∷ rs) bs cap (suc k) d h = get_d_rows rs (drop cap bs) cap k d (omega arith) ∙ ap (λ b. row (get_or rs k blank) b cap) (drop_next k cap bs)
+pub nth_rows : (rs : List Record) (bs : List ℕ) (cap k : ℕ) → slice_get (rows rs bs cap) k ≡ option_map (λ r. row r (drop (k * cap) bs) cap) (slice_get rs k)
+nth_rows [] bs cap k = refl
+nth_rows (x ∷ rs) bs cap zero = ap (λ n. Some (row x (drop n bs) cap)) (sym (zero-mul cap))
+nth_rows (x ∷ rs) bs cap (suc k) = nth_rows rs (drop cap bs) cap k ∙ ap (λ b. option_map (λ r. row r b cap) (slice_get rs k)) (drop_next k cap bs)
 
-pub past_rows : (rs : List Record) (bs : List ℕ) (cap k : ℕ) → length rs ≤ k → slice_get (rows rs bs cap) k ≡ None
-past_rows rs bs cap k h = slice_get_past (rows rs bs cap) k (omega (arith, length_rows rs bs cap))
+module _ (rs : List Record) (bs : List ℕ) (cap k : ℕ) where
+  pub found_row : (r : Record) → slice_get rs k ≡ Some r → slice_get (rows rs bs cap) k ≡ Some (row r (drop (k * cap) bs) cap)
+  found_row r e = nth_rows rs bs cap k ∙ ap (option_map (λ r. row r (drop (k * cap) bs) cap)) e
 
-pub nth_rows : (rs : List Record) (bs : List ℕ) (cap k : ℕ) → k < length rs → slice_get (rows rs bs cap) k ≡ Some (row (get_or rs k blank) (drop (k * cap) bs) cap)
-nth_rows rs bs cap k h = slice_get-get_or (rows rs bs cap) k (row blank bs cap) (omega (arith, length_rows rs bs cap)) ∙ ap Some (get_d_rows rs bs cap k (row blank bs cap) h)
+  pub no_row : slice_get rs k ≡ None → slice_get (rows rs bs cap) k ≡ None
+  no_row e = nth_rows rs bs cap k ∙ ap (option_map (λ r. row r (drop (k * cap) bs) cap)) e
 
 -- what a whole table says of one slot
 pub record At (r : Record) (bs : List ℕ) (cap at : ℕ) : Type 0 where
@@ -61,22 +63,22 @@ head r rs bs cap h =
 from_head : (r : Record) (rs : List Record) (bs : List ℕ) (cap : ℕ) → leb cap (length bs) ≡ true → short cap (text_in r.value) ≡ true → well_formed (meant_by (take cap bs) r.value) ≡ true → whole rs (drop cap bs) cap ≡ true → whole (r ∷ rs) bs cap ≡ true
 from_head r rs bs cap a b c d = and_from _ _ (and_from _ _ a (and_from _ _ b c)) d
 
-pub whole_at : (rs : List Record) (bs : List ℕ) (cap k : ℕ) → k < length rs → whole rs bs cap ≡ true → At (get_or rs k blank) bs cap (k * cap)
-whole_at [] bs cap k h s = absurd (omega arith)
-whole_at (x ∷ rs) bs cap zero h s =
+pub whole_at : (rs : List Record) (bs : List ℕ) (cap k : ℕ) (r : Record) → slice_get rs k ≡ Some r → whole rs bs cap ≡ true → At r bs cap (k * cap)
+whole_at [] bs cap k r e s = absurd (none-some r e)
+whole_at (x ∷ rs) bs cap zero r e s =
     let p = head x rs bs cap s in
-    record {
+    subst (λ y. At y bs cap (zero * cap)) (same_Some x r e) (record {
       within = omega (arith, zero-mul cap, p.room);
       short_text = p.text;
       formed = ap (λ n. well_formed (meant_by (take cap (drop n bs)) x.value)) (zero-mul cap) ∙ p.value;
-    }
-whole_at (x ∷ rs) bs cap (suc k) h s =
+    })
+whole_at (x ∷ rs) bs cap (suc k) r e s =
     let p = head x rs bs cap s in
-    let t = whole_at rs (drop cap bs) cap k (omega arith) p.rest in
+    let t = whole_at rs (drop cap bs) cap k r e p.rest in
     record {
       within = omega (arith, suc-mul k cap, t.within, length-drop cap bs, p.room);
       short_text = t.short_text;
-      formed = ap (λ b. well_formed (meant_by (take cap b) (get_or rs k blank).value)) (sym (drop_next k cap bs)) ∙ t.formed;
+      formed = ap (λ b. well_formed (meant_by (take cap b) r.value)) (sym (drop_next k cap bs)) ∙ t.formed;
     }
 
 -- bytes that differ only between `from` and `to`

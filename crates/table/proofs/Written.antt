@@ -1,21 +1,22 @@
 -- A value posted to a slot: its text goes to the front of the slot's part, its length into the record.
-use Rattle.std.proofs.Common.{◌≡◌, ℕ, ◌+◌, ◌*◌, ◌<◌, ◌≤◌, true, List, length, take, drop, set, Some, None, sym, refl, ap, ◌∙◌, subst, arith, Bor}
-use Rattle.std.specs.Option.{option_map}
+use Rattle.std.proofs.Common.{◌≡◌, ℕ, ◌+◌, ◌*◌, ◌≤◌, true, leb, List, [], length, take, drop, set, Some, None, Option, sym, refl, ap, ◌∙◌, arith, Bor, set-set}
+use Rattle.std.specs.Option.{option_map, unwrap_or}
+use Rattle.std.specs.List.{slice_get}
 use Rattle.std.proofs.lemmas.List.{take-take}
 use Rattle.text.specs.Buffers.{laid}
 use Rattle.text.proofs.Laws.{length_laid, take_laid, drop_laid, span_new}
 use Rattle.std.proofs.lemmas.Bool.{le-leb}
-use Rattle.value.specs.Values.{text_of, meaning, well_formed, size, text_in, with_text}
+use Rattle.value.specs.Values.{text_of, meaning, well_formed, size, text_in, Maps}
 use Rattle.value.specs.declared.value.Value.{Value}
-use Rattle.value.proofs.Laws.{meaning_with, text_with, text_meaning}
+use Rattle.value.proofs.Laws.{meaning_mapped, text_mapped, text_meaning}
 use Rattle.shelf.specs.Slots.{slot}
 use Rattle.shelf.specs.declared.mark.Mark.TheVariants.{Open}
 use Rattle.table.specs.declared.record.Record.{Record}
-use Rattle.table.specs.Rows.{meant_by, rows, short, whole}
+use Rattle.table.specs.Rows.{meant_by, blank, rows, short, whole}
 use Rattle.table.proofs.Rowed.{Within, rows_set, whole_at, whole_set}
 
 module _ (bs t : List ℕ) (at cap : ℕ) (h : at + cap ≤ length bs) (l : length t ≤ cap) where
-  pub laid_within : Within bs (laid bs at t) at (at + cap)
+  laid_within : Within bs (laid bs at t) at (at + cap)
   laid_within =
       let a : at ≤ length bs = omega arith in
       record {
@@ -24,52 +25,62 @@ module _ (bs t : List ℕ) (at cap : ℕ) (h : at + cap ≤ length bs) (l : leng
         after = drop_laid bs t at (at + cap) (omega arith) a;
       }
 
-  pub laid_there : take (length t) (take cap (drop at (laid bs at t))) ≡ t
+  laid_there : take (length t) (take cap (drop at (laid bs at t))) ≡ t
   laid_there = take-take (length t) cap (drop at (laid bs at t)) l ∙ span_new bs t at (omega arith)
 
-pub unwritten : (bs : List ℕ) (from to : ℕ) → Within bs bs from to
-unwritten bs from to = record { len = refl; before = refl; after = refl }
+-- t is the text of a value, or an empty one
+module _ (v : Value (Bor (List ℕ))) (o : Option (Bor (List ℕ))) (none t : Bor (List ℕ)) (e : o ≡ text_in v) (u : t ≡ unwrap_or o none) where
+  pub said : (x : Bor (List ℕ)) → text_in v ≡ Some x → t.now ≡ x.now
+  said x f = ap (λ (y : Bor (List ℕ)). y.now) (u ∙ ap (λ p. unwrap_or p none) (e ∙ f))
 
--- after a posting of v to slot k of a whole table
-module _ (rs : List Record) (bs : List ℕ) (cap k : ℕ) (h : k < length rs) (s : whole rs bs cap ≡ true) (v : Value (Bor (List ℕ))) (w : well_formed (meaning (λ x. x.now) v) ≡ true) where
-  abbrev pub record_of : ℕ → Record
-  record_of n = record { value = with_text v n }
+  sized : (p : Option (Bor (List ℕ))) → none.now ≡ [] → size (option_map (λ x. x.now) p) ≡ length (unwrap_or p none).now
+  sized None q = ap length (sym q)
+  sized (Some x) q = refl
 
-  -- the record and its part mean v
-  pub Means : ℕ → List ℕ → Type 0
-  Means n bs' = meant_by (take cap (drop (k * cap) bs')) (with_text v n) ≡ meaning (λ x. x.now) v
+  pub size_text : none.now ≡ [] → size (text_of (meaning (λ x. x.now) v)) ≡ length t.now
+  size_text q =
+      ap size (text_meaning (λ x. x.now) v ∙ ap (option_map (λ x. x.now)) (sym e))
+      ∙ sized o q ∙ ap (λ (y : Bor (List ℕ)). length y.now) (sym u)
 
-  pub record After (n : ℕ) (bs' : List ℕ) : Type 0 where
-    pub slots : rows (set rs k (record_of n)) bs' cap ≡ set (rows rs bs cap) k (slot (meaning (λ x. x.now) v) cap Open)
-    pub stays : whole (set rs k (record_of n)) bs' cap ≡ true
+-- a posting to slot k of a whole table: the slot is blank, then its bytes are written, then it has its record
+module _ (rs : List Record) (bs : List ℕ) (cap k : ℕ) (r : Record) (found : slice_get rs k ≡ Some r) (s : whole rs bs cap ≡ true) where
+  pub blanked : whole (set rs k blank) bs cap ≡ true
+  blanked = whole_set rs bs bs cap k blank (record { len = refl; before = refl; after = refl }) refl refl s
 
-  written : (n : ℕ) (bs' : List ℕ) → Within bs bs' (k * cap) (k * cap + cap) → short cap (text_in (with_text v n)) ≡ true → Means n bs' → After n bs'
-  unfolding Means
-  written n bs' inside f e = record {
-    slots = rows_set rs bs bs' cap k (record_of n) inside ∙ ap (λ m. set (rows rs bs cap) k (slot m cap Open)) e;
-    stays = whole_set rs bs bs' cap k (record_of n) inside f (ap well_formed e ∙ w) s;
-  }
+  module _ (t : List ℕ) (l : length t ≤ cap) where
+    inside : k * cap + cap ≤ length bs
+    inside = (whole_at rs bs cap k r found s).within
 
-  pub with_text_lem : (t : Bor (List ℕ)) (bs' : List ℕ) → text_in v ≡ Some t → length t.now ≤ cap → bs' ≡ laid bs (k * cap) t.now → After (length t.now) bs'
-  unfolding Means
-  with_text_lem t bs' e l q =
-      let a = (whole_at rs bs cap k h s).within in
-      subst (After (length t.now)) (sym q)
-      (written (length t.now) (laid bs (k * cap) t.now) (laid_within bs t.now (k * cap) cap a l)
-      (ap (short cap) (text_with v (length t.now) ∙ ap (option_map (λ _. length t.now)) e) ∙ le-leb (length t.now) cap l)
-      (meaning_with (λ x. x.now) (λ n. take n (take cap (drop (k * cap) (laid bs (k * cap) t.now)))) v (length t.now) (λ u f.
-      let same : t ≡ u = let g = sym e ∙ f in cc in
-      laid_there bs t.now (k * cap) cap a l ∙ ap (λ x. x.now) same)))
+    pub room : k * cap + length t ≤ length bs
+    room = omega (arith, inside)
 
-  pub without_text : text_in v ≡ None → After 0 bs
-  unfolding Means
-  without_text e =
-      written 0 bs (unwritten bs _ _) (ap (short cap) (text_with v 0 ∙ ap (option_map (λ _. 0)) e))
-      (meaning_with (λ x. x.now) (λ n. take n (take cap (drop (k * cap) bs))) v 0 (λ u f. absurd (let z : ◌≡◌ {A = ℕ} 0 1 = let g = sym e ∙ f in cc in omega arith)))
+    pub copied : whole (set rs k blank) (laid bs (k * cap) t) cap ≡ true
+    copied = whole_set rs bs (laid bs (k * cap) t) cap k blank (laid_within bs t (k * cap) cap inside l) refl refl s
 
--- the size of a value's text
-pub size_some : (v : Value (Bor (List ℕ))) (t : Bor (List ℕ)) → text_in v ≡ Some t → size (text_of (meaning (λ x. x.now) v)) ≡ length t.now
-size_some v t e = ap size (text_meaning (λ x. x.now) v ∙ ap (option_map (λ x. x.now)) e)
+    -- v is the value, with the length of its text w
+    module _ (R : Bor (List ℕ) → ℕ → Type 0) (counts : (x : Bor (List ℕ)) (n : ℕ) → R x n → n ≡ length x.now) (v : Value (Bor (List ℕ))) (w : Value ℕ) (m : Maps R v w) (said : (x : Bor (List ℕ)) → text_in v ≡ Some x → t ≡ x.now) where
+      abbrev pub entry : Record
+      entry = record { value = w }
 
-pub size_none : (v : Value (Bor (List ℕ))) → text_in v ≡ None → size (text_of (meaning (λ x. x.now) v)) ≡ 0
-size_none v e = ap size (text_meaning (λ x. x.now) v ∙ ap (option_map (λ x. x.now)) e)
+      count : (x : Bor (List ℕ)) (n : ℕ) → text_in v ≡ Some x → R x n → n ≡ length t
+      count x n e r = counts x n r ∙ ap length (sym (said x e))
+
+      means : meant_by (take cap (drop (k * cap) (laid bs (k * cap) t))) w ≡ meaning (λ x. x.now) v
+      means =
+          let part = take cap (drop (k * cap) (laid bs (k * cap) t)) in
+          meaning_mapped R (λ x. x.now) (λ n. take n part) v w m (λ x n e r. ap (λ i. take i part) (count x n e r) ∙ laid_there bs t (k * cap) cap inside l ∙ said x e)
+
+      fits : (o : Option ℕ) → text_in w ≡ o → short cap o ≡ true
+      fits None e = refl
+      fits (Some n) e = let p = text_mapped R v w m n e in ap (λ i. leb i cap) (count p.0 n p.1 p.2) ∙ le-leb (length t) cap l
+
+      pub entered : rows (set (set rs k blank) k entry) (laid bs (k * cap) t) cap ≡ set (rows rs bs cap) k (slot (meaning (λ x. x.now) v) cap Open)
+      entered =
+          ap (λ l. rows l (laid bs (k * cap) t) cap) (set-set rs k blank entry)
+          ∙ rows_set rs bs (laid bs (k * cap) t) cap k entry (laid_within bs t (k * cap) cap inside l)
+          ∙ ap (λ m. set (rows rs bs cap) k (slot m cap Open)) means
+
+      pub stays : well_formed (meaning (λ x. x.now) v) ≡ true → whole (set (set rs k blank) k entry) (laid bs (k * cap) t) cap ≡ true
+      stays f =
+          ap (λ l. whole l (laid bs (k * cap) t) cap) (set-set rs k blank entry)
+          ∙ whole_set rs bs (laid bs (k * cap) t) cap k entry (laid_within bs t (k * cap) cap inside l) (fits (text_in w) refl) (ap well_formed means ∙ f) s

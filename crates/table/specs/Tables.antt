@@ -1,11 +1,8 @@
 -- The same of a table whole.
-use Rattle.std.specs.Prelude.{◌≡◌, true, List}
+use Rattle.std.specs.Prelude.{List}
 use Rattle.shelf.specs.Slots.{Slot}
-use Rattle.table.specs.Rows.{rows, whole}
+use Rattle.table.specs.Rows.{rows}
 use Rattle.table.specs.declared.table.Table.{Table}
 
 abbrev pub table_slots : Table → List Slot
 table_slots t = rows t.records.now t.texts.now t.capacity
-
-abbrev pub Whole : Table → Type 0
-Whole t = whole t.records.now t.texts.now t.capacity ≡ true

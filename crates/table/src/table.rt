@@ -1,4 +1,7 @@
 // Lent records, and lent bytes for their texts: that of slot k begins at byte k times the capacity.
+ghost use Rattle.std.specs.Prelude.{◌≡◌, true};
+ghost use Rattle.table.specs.Rows.{whole};
+
 use crate::record::Record;
 
 #[derive(Drop)]
@@ -6,4 +9,5 @@ pub struct Table<'a> {
     pub records: &'a mut [Record],
     pub texts: &'a mut [u8],
     pub capacity: usize,
+    ghost whole: { whole records.now texts.now capacity ≡ true },
 }

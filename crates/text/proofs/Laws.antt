@@ -12,9 +12,6 @@ use Rattle.std.proofs.lemmas.Str.{encodes-chars, scalars-chars}
 use Rattle.text.specs.Scalars.{utf8}
 use Rattle.text.specs.Buffers.{span, span_text, within, laid, stored}
 
-pub length_span : (d : List ℕ) (s : Span) → within s (length d) → length (span_text d s) ≡ s.len
-length_span d s h = simp (length-take, length-drop) (omega arith)
-
 pub length_laid : (d x : List ℕ) (at : ℕ) → at + length x ≤ length d → length (laid d at x) ≡ length d
 length_laid d x at h = simp (length-append, length-take, length-drop) (omega arith)
 

@@ -1,20 +1,11 @@
 -- Pieces laid behind each other.
-use Rattle.std.proofs.Common.{◌≡◌, ℕ, ◌+◌, ◌≤◌, List, ◌++◌, length, take, drop, sym, refl, ap, ◌∙◌, subst, append_assoc, arith}
-use lib.Seq.{paste}
-use Rattle.std.proofs.lemmas.List.{length-take-le}
-use Rattle.text.specs.Buffers.{laid, within, span_text}
-use Rattle.text.specs.declared.span.Span.{Span}
+use Rattle.std.proofs.Common.{◌≡◌, ℕ, ◌+◌, ◌≤◌, List, ◌++◌, length, refl, ap, ◌∙◌, arith}
+use Rattle.text.specs.Buffers.{laid}
 use Rattle.text.specs.declared.piece.Text.TheVariants.{Part, Lent}
 use Rattle.text.specs.declared.piece.Piece.{Piece}
 use Rattle.text.specs.declared.piece.Piece.TheVariants.{Whole, Letter, Byte}
 use Rattle.text.specs.Pieces.{piece_bytes, Below}
-use Rattle.text.proofs.Laws.{span_laid, laid_laid, length_span}
-
--- what `copy_within` leaves
-pub laid_from_paste : (d s e : List ℕ) (at n m : ℕ) → e ≡ paste d at s m → m ≡ n → n ≤ length s → e ≡ laid d at (take n s)
-laid_from_paste d s e at n m h k l =
-    let q : length (take n s) ≡ n = length-take-le n s l in
-    h ∙ ap (paste d at s) k ∙ append_assoc (take at d) (take n s) (drop (at + n) d) ∙ ap (λ z. take at d ++ (take n s ++ drop (at + z) d)) (sym q)
+use Rattle.text.proofs.Laws.{span_laid, laid_laid}
 
 -- a piece stays what it was while a text is laid behind it
 pub piece_laid : (d x : List ℕ) (fill : ℕ) (q : Piece) → Below fill q → fill ≤ length d → piece_bytes (laid d fill x) q ≡ piece_bytes d q
@@ -34,11 +25,3 @@ below_more fill n (Whole (Part s)) l h = omega arith
 below_more fill n (Whole (Lent t)) l h = h
 below_more fill n (Letter c) l h = h
 below_more fill n (Byte b) l h = h
-
--- a part that is copied lies in the buffer, and has room
-pub part_fits : (d : List ℕ) (fill : ℕ) (p : Piece) (s : Span) → p ≡ Whole (Part s) → Below (length d) p → fill + length (piece_bytes d p) ≤ length d → within s (length d) × (fill + s.len ≤ length d)
-part_fits d fill p s e b f =
-    let g : within s (length d) = subst (Below (length d)) e b in
-    let h : fill + length (span_text d s) ≤ length d = subst (λ z. fill + length (piece_bytes d z) ≤ length d) e f in
-    let n = length_span d s g in
-    (g, omega arith)

@@ -38,10 +38,8 @@ pub fn piece_len(work: &[u8], piece: Piece) -> usize
     ensures { result ≡ length (piece_bytes work.now piece.entry) }
 {
     match piece {
-        Piece::Whole(text) => match text {
-            Text::Part(s) => s.len,
-            Text::Lent(t) => t.len(),
-        },
+        Piece::Whole(Text::Part(s)) => s.len,
+        Piece::Whole(Text::Lent(t)) => t.len(),
         Piece::Letter(c) => c.len_utf8(),
         Piece::Byte(_) => 1,
     }
@@ -53,10 +51,8 @@ fn lay(work: &mut [u8], fill: usize, piece: Piece)
     ensures { work.new ≡ laid work.old fill (piece_bytes work.old piece.entry) }
 {
     match piece {
-        Piece::Whole(text) => match text {
-            Text::Part(s) => copy_up(work, fill, s),
-            Text::Lent(t) => copy_in(work, fill, t),
-        },
+        Piece::Whole(Text::Part(s)) => copy_up(work, fill, s),
+        Piece::Whole(Text::Lent(t)) => copy_in(work, fill, t),
         Piece::Letter(c) => {
             let mut four = [0u8; 4];
             let text = c.encode_utf8(&mut four);

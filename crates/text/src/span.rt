@@ -1,6 +1,6 @@
 // A part of a buffer, by its first byte and its length.
 
-#[derive(Clone, Copy, PartialEq, Eq, Debug)]
+#[derive(Clone, Copy, Default, PartialEq, Eq, Debug)]
 pub struct Span {
     pub start: usize,
     pub len: usize,

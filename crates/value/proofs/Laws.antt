@@ -1,12 +1,12 @@
 -- The laws of kinds, operators and values, for the crates above. Each kind and operator stands in its list at its number, so
 -- that what a test says of the whole list holds of each; and a value keeps its meaning wherever its text is read.
-use Rattle.std.proofs.Common.{◌≡◌, ℕ, zero, suc, Bool, true, ◌&&◌, List, [], ◌∷◌, Some, sym, refl, ap, ◌∙◌, arith}
+use Rattle.std.proofs.Common.{◌≡◌, ℕ, zero, suc, Bool, true, ◌&&◌, List, [], ◌∷◌, Some, None, Option, sym, refl, ap, ◌∙◌, subst, arith}
 use Rattle.std.specs.Option.{option_map}
 use Rattle.std.specs.List.{slice_get}
 use Rattle.std.proofs.lemmas.Bool.{and_parts, eqb-true}
 use Rattle.value.specs.Kinds.{kinds, kind_number, is_kind}
 use Rattle.value.specs.Ops.{ops, op_number}
-use Rattle.value.specs.Values.{str, blob, kind_in, text_of, meaning, kind_of, text_in, with_text}
+use Rattle.value.specs.Values.{str, blob, kind_in, text_of, meaning, kind_of, text_in, Maps}
 use Rattle.value.specs.declared.value.Value.{Value}
 use Rattle.value.specs.declared.value.Value.TheVariants as value
 use Rattle.value.specs.declared.kind.Kind.{Kind}
@@ -79,28 +79,41 @@ kind_meaning f (value.Blob t) = refl
 kind_meaning f (value.Excl r) = refl
 kind_meaning f (value.Incl r) = refl
 
--- a value with another text means the same where the texts have the same bytes
-pub meaning_with : {T U : Type 0} (f : T → List ℕ) (g : U → List ℕ) (v : Value T) (u : U) → ((t : T) → text_in v ≡ Some t → g u ≡ f t) → meaning g (with_text v u) ≡ meaning f v
-meaning_with f g value.Unit u h = refl
-meaning_with f g (value.Bool b) u h = refl
-meaning_with f g (value.Int n) u h = refl
-meaning_with f g (value.Float x) u h = refl
-meaning_with f g (value.Char c) u h = refl
-meaning_with f g (value.Str t) u h = ap str (h t refl)
-meaning_with f g (value.Blob t) u h = ap blob (h t refl)
-meaning_with f g (value.Excl r) u h = refl
-meaning_with f g (value.Incl r) u h = refl
+-- w has the text of v, replaced: it means the same where the texts have the same bytes
+module _ {T U : Type 0} (R : T → U → Type 0) where
+  pub meaning_mapped : (f : T → List ℕ) (g : U → List ℕ) (v : Value T) (w : Value U) → Maps R v w → ((t : T) (u : U) → text_in v ≡ Some t → R t u → g u ≡ f t) → meaning g w ≡ meaning f v
+  meaning_mapped f g value.Unit w m h = ap (meaning g) m
+  meaning_mapped f g (value.Bool b) w m h = ap (meaning g) m
+  meaning_mapped f g (value.Int n) w m h = ap (meaning g) m
+  meaning_mapped f g (value.Float x) w m h = ap (meaning g) m
+  meaning_mapped f g (value.Char c) w m h = ap (meaning g) m
+  meaning_mapped f g (value.Str t) w m h = ap (meaning g) m.2 ∙ ap str (h t m.0 refl m.1)
+  meaning_mapped f g (value.Blob t) w m h = ap (meaning g) m.2 ∙ ap blob (h t m.0 refl m.1)
+  meaning_mapped f g (value.Excl r) w m h = ap (meaning g) m
+  meaning_mapped f g (value.Incl r) w m h = ap (meaning g) m
 
-pub text_with : {T U : Type 0} (v : Value T) (u : U) → text_in (with_text v u) ≡ option_map (λ _. u) (text_in v)
-text_with value.Unit u = refl
-text_with (value.Bool b) u = refl
-text_with (value.Int n) u = refl
-text_with (value.Float x) u = refl
-text_with (value.Char c) u = refl
-text_with (value.Str t) u = refl
-text_with (value.Blob t) u = refl
-text_with (value.Excl r) u = refl
-text_with (value.Incl r) u = refl
+  -- and what its text, if there is one, is to the other
+  pub text_mapped : (v : Value T) (w : Value U) → Maps R v w → (u : U) → text_in w ≡ Some u → (t : T) × (text_in v ≡ Some t) × R t u
+  text_mapped value.Unit w m u e = absurd (let z : ◌≡◌ {A = Option U} None (Some u) = sym (ap text_in m) ∙ e in let y : ◌≡◌ {A = ℕ} 0 1 = cc in omega arith)
+  text_mapped (value.Bool b) w m u e = absurd (let z : ◌≡◌ {A = Option U} None (Some u) = sym (ap text_in m) ∙ e in let y : ◌≡◌ {A = ℕ} 0 1 = cc in omega arith)
+  text_mapped (value.Int n) w m u e = absurd (let z : ◌≡◌ {A = Option U} None (Some u) = sym (ap text_in m) ∙ e in let y : ◌≡◌ {A = ℕ} 0 1 = cc in omega arith)
+  text_mapped (value.Float x) w m u e = absurd (let z : ◌≡◌ {A = Option U} None (Some u) = sym (ap text_in m) ∙ e in let y : ◌≡◌ {A = ℕ} 0 1 = cc in omega arith)
+  text_mapped (value.Char c) w m u e = absurd (let z : ◌≡◌ {A = Option U} None (Some u) = sym (ap text_in m) ∙ e in let y : ◌≡◌ {A = ℕ} 0 1 = cc in omega arith)
+  text_mapped (value.Str t) w m u e = let q : m.0 ≡ u = (let z : Some m.0 ≡ Some u = sym (ap text_in m.2) ∙ e in cc) in (t, refl, subst (R t) q m.1)
+  text_mapped (value.Blob t) w m u e = let q : m.0 ≡ u = (let z : Some m.0 ≡ Some u = sym (ap text_in m.2) ∙ e in cc) in (t, refl, subst (R t) q m.1)
+  text_mapped (value.Excl r) w m u e = absurd (let z : ◌≡◌ {A = Option U} None (Some u) = sym (ap text_in m) ∙ e in let y : ◌≡◌ {A = ℕ} 0 1 = cc in omega arith)
+  text_mapped (value.Incl r) w m u e = absurd (let z : ◌≡◌ {A = Option U} None (Some u) = sym (ap text_in m) ∙ e in let y : ◌≡◌ {A = ℕ} 0 1 = cc in omega arith)
+
+  pub kind_mapped : (v : Value T) (w : Value U) → Maps R v w → kind_of w ≡ kind_of v
+  kind_mapped value.Unit w m = ap kind_of m
+  kind_mapped (value.Bool b) w m = ap kind_of m
+  kind_mapped (value.Int n) w m = ap kind_of m
+  kind_mapped (value.Float x) w m = ap kind_of m
+  kind_mapped (value.Char c) w m = ap kind_of m
+  kind_mapped (value.Str t) w m = ap kind_of m.2
+  kind_mapped (value.Blob t) w m = ap kind_of m.2
+  kind_mapped (value.Excl r) w m = ap kind_of m
+  kind_mapped (value.Incl r) w m = ap kind_of m
 
 pub text_meaning : {T : Type 0} (f : T → List ℕ) (v : Value T) → text_of (meaning f v) ≡ option_map f (text_in v)
 text_meaning f value.Unit = refl

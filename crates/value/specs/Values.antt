@@ -1,6 +1,6 @@
 -- What a value means: its kind, and its text as bytes, wherever they lie. Every statement about values above this crate
 -- speaks of meanings. Assumes nothing.
-use Rattle.std.specs.Prelude.{ℕ, Bool, true, cond, ◌&&◌, List, length, ℤ, Some, None, Ok, Err, Option, Result, nat_le, Float}
+use Rattle.std.specs.Prelude.{◌≡◌, ℕ, Bool, true, cond, ◌&&◌, List, length, ℤ, Some, None, Ok, Err, Option, Result, nat_le, Float}
 use Rattle.std.proofs.Math.Utf8.{scalar}
 use Rattle.fault.specs.declared.Fault.{Fault}
 use Rattle.fault.specs.declared.Fault.TheVariants.{BufferShort}
@@ -138,16 +138,21 @@ text_in (value.Blob t) = Some t
 text_in (value.Excl r) = None
 text_in (value.Incl r) = None
 
-abbrev pub with_text : {T U : Type 0} → Value T → U → Value U
-with_text value.Unit u = value.Unit
-with_text (value.Bool b) u = value.Bool b
-with_text (value.Int n) u = value.Int n
-with_text (value.Float x) u = value.Float x
-with_text (value.Char c) u = value.Char c
-with_text (value.Str t) u = value.Str u
-with_text (value.Blob t) u = value.Blob u
-with_text (value.Excl r) u = value.Excl r
-with_text (value.Incl r) u = value.Incl r
+-- what is asked of a text, if there is one
+abbrev pub TextMeets : {T : Type 0} → (T → Type 0) → Value T → Type 0
+TextMeets {T = T} P v = (t : T) → text_in v ≡ Some t → P t
+
+-- w is v with its text replaced by one that stands to it as R says
+abbrev pub Maps : {T U : Type 0} → (T → U → Type 0) → Value T → Value U → Type 0
+Maps R value.Unit w = w ≡ value.Unit
+Maps R (value.Bool b) w = w ≡ value.Bool b
+Maps R (value.Int n) w = w ≡ value.Int n
+Maps R (value.Float x) w = w ≡ value.Float x
+Maps R (value.Char c) w = w ≡ value.Char c
+Maps {U = U} R (value.Str t) w = (u : U) × R t u × (w ≡ value.Str u)
+Maps {U = U} R (value.Blob t) w = (u : U) × R t u × (w ≡ value.Blob u)
+Maps R (value.Excl r) w = w ≡ value.Excl r
+Maps R (value.Incl r) w = w ≡ value.Incl r
 
 -- a text, if there is one, lies in the buffer below `end`
 abbrev pub Inside : ℕ → Option Span → Type 0

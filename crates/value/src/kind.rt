@@ -32,17 +32,21 @@ pub const KINDS: [Kind; 9] = [
     Kind::Incl,
 ];
 
-impl Kind {
-    pub fn number(self) -> u8
-        ensures { result ≡ kind_number self }
-    {
-        self as u8
-    }
+impl From<Kind> for u8 {
+    ghost from_gives = { λ k n. n ≡ kind_number k };
 
-    // The kind of a number, or a refusal where there is none.
-    pub fn from_number(number: u8) -> Result<Kind, Fault>
-        ensures { result ≡ ok_or (slice_get kinds number) Unknown }
-    {
+    fn from(kind: Kind) -> u8 {
+        kind as u8
+    }
+}
+
+// The kind of a number, or a refusal where there is none.
+impl TryFrom<u8> for Kind {
+    type Error = Fault;
+
+    ghost try_from_gives = { λ n r. r ≡ ok_or (slice_get kinds n) Unknown };
+
+    fn try_from(number: u8) -> Result<Kind, Fault> {
         KINDS.get(number as usize).copied().ok_or(Fault::Unknown)
     }
 }

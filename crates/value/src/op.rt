@@ -52,17 +52,21 @@ pub const OPS: [Op; 19] = [
     Op::InclusiveRange,
 ];
 
-impl Op {
-    pub fn number(self) -> u8
-        ensures { result ≡ op_number self }
-    {
-        self as u8
-    }
+impl From<Op> for u8 {
+    ghost from_gives = { λ o n. n ≡ op_number o };
 
-    // The operator of a number, or a refusal where there is none.
-    pub fn from_number(number: u8) -> Result<Op, Fault>
-        ensures { result ≡ ok_or (slice_get ops number) Unknown }
-    {
+    fn from(op: Op) -> u8 {
+        op as u8
+    }
+}
+
+// The operator of a number, or a refusal where there is none.
+impl TryFrom<u8> for Op {
+    type Error = Fault;
+
+    ghost try_from_gives = { λ n r. r ≡ ok_or (slice_get ops n) Unknown };
+
+    fn try_from(number: u8) -> Result<Op, Fault> {
         OPS.get(number as usize).copied().ok_or(Fault::Unknown)
     }
 }

@@ -4,7 +4,7 @@ ghost use Rattle.value.specs.Kinds.{single, has, united};
 
 use crate::kind::Kind;
 
-#[derive(Clone, Copy, PartialEq, Eq, Debug, Default)]
+#[derive(Clone, Copy, Default, PartialEq, Eq, Debug)]
 pub struct KindSet {
     pub bits: u16,
 }
@@ -14,14 +14,14 @@ impl KindSet {
         ensures { result ≡ single kind }
     {
         KindSet {
-            bits: 1 << kind.number(),
+            bits: 1 << u8::from(kind),
         }
     }
 
     pub fn has(self, kind: Kind) -> bool
         ensures { result ≡ has self kind }
     {
-        (self.bits >> kind.number()) % 2 == 1
+        (self.bits >> u8::from(kind)) % 2 == 1
     }
 
     pub fn union(self, other: KindSet) -> KindSet

@@ -25,10 +25,7 @@ pub fn lend(value: Value<Span>, buffer: &[u8]) -> Value<&[u8]>
     requires { Inside (length buffer.now) (text_in value) }
     ensures { meaning (λ x. x.now) result ≡ meant buffer.now value }
 {
-    match value.text() {
-        Some(span) => value.with_text(part(buffer, span)),
-        None => value.with_text(buffer),
-    }
+    value.map(|span| part(buffer, span))
 }
 
 // Puts the value into the buffer: its text at the place and no other byte.
@@ -38,7 +35,7 @@ pub fn store(buffer: &mut [u8], place: usize, value: Value<&[u8]>) -> Result<Val
 {
     let span = match value.text() {
         Some(text) => write_text(buffer, place, text)?,
-        None => Span { start: 0, len: 0 },
+        None => Span::default(),
     };
-    Ok(value.with_text(span))
+    Ok(value.map(|_| span))
 }

@@ -1,6 +1,6 @@
 // A value of one of the nine kinds. Where its text is, if it has one, is up to `T`: a part of a buffer, or lent bytes.
 ghost use Rattle.std.specs.Prelude.{◌≡◌};
-ghost use Rattle.value.specs.Values.{kind_of, text_in, with_text};
+ghost use Rattle.value.specs.Values.{kind_of, text_in, TextMeets, Maps};
 
 use crate::kind::Kind;
 
@@ -51,9 +51,10 @@ impl<T: Copy> Value<T> {
         }
     }
 
-    // The same value, with another text in the place of its own.
-    pub fn with_text<U: Copy>(self, text: U) -> Value<U>
-        ensures { result ≡ with_text self text }
+    // The same value, with what `f` makes of its text in the place of that.
+    pub fn map<U: Copy, F: FnOnce(T) -> U>(self, f: F) -> Value<U>
+        requires { TextMeets (F.pre f) self }
+        ensures { Maps (F.post f) self result }
     {
         match self {
             Value::Unit => Value::Unit,
@@ -61,8 +62,8 @@ impl<T: Copy> Value<T> {
             Value::Int(n) => Value::Int(n),
             Value::Float(x) => Value::Float(x),
             Value::Char(c) => Value::Char(c),
-            Value::Str(_) => Value::Str(text),
-            Value::Blob(_) => Value::Blob(text),
+            Value::Str(t) => Value::Str(f(t)),
+            Value::Blob(t) => Value::Blob(f(t)),
             Value::Excl(r) => Value::Excl(r),
             Value::Incl(r) => Value::Incl(r),
         }

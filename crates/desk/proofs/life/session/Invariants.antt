@@ -4,5 +4,4 @@ use Rattle.desk.proofs.life.session.Given as goal
 abbrev pub invariant-loop-i : goal.invariant-loop-i
 invariant-loop-i g l =
     let slots = g.S.Shelf.slots in
-    Along (slots l.initial.desk.shelf) l.calls l.initial.work l.initial.answers l.i l.work l.answers (slots l.desk.shelf) l.desk.rule
-    × g.S.Shelf.sound l.desk.shelf
+    Along (slots l.initial.desk.shelf) l.call-items l.initial.work l.initial.answers l.i l.work l.answers (slots l.desk.shelf) l.desk.rule

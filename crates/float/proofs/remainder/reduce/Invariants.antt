@@ -1,15 +1,9 @@
-use Rattle.std.proofs.Common.{◌≡◌, ◌*◌, ◌-◌, ◌%◌, ◌^◌, ◌<◌, ◌≤◌}
+use Rattle.std.proofs.Common.{◌≡◌, ◌+◌, ◌*◌, ◌/◌, ◌%◌, ◌^◌, ◌<◌, ◌≤◌}
 use Rattle.float.proofs.remainder.reduce.Given as goal
 
--- as many places as are not left are reduced
-abbrev pub invariant-tens : goal.invariant-tens
-invariant-tens l = (l.rest ≡ l.m * 2 ^ (l.shift - l.left) % l.n) × (l.left ≤ l.shift) × (l.rest < l.n)
+-- ten places are reduced in each turn of the first loop, and one in each of the second
+abbrev pub invariant-loop : goal.invariant-loop
+invariant-loop l = (l.rest ≡ l.m * 2 ^ (10 * l.counter) % l.n) × (l.rest < l.n) × (l.counter ≤ l.end)
 
-abbrev pub decreases-tens : goal.decreases-tens
-decreases-tens l = l.left
-
-abbrev pub invariant-ones : goal.invariant-ones
-invariant-ones l = (l.rest ≡ l.m * 2 ^ (l.shift - l.left) % l.n) × (l.left ≤ l.shift) × (l.rest < l.n)
-
-abbrev pub decreases-ones : goal.decreases-ones
-decreases-ones l = l.left
+abbrev pub invariant-loop-2 : goal.invariant-loop-2
+invariant-loop-2 l = (l.rest ≡ l.m * 2 ^ (10 * (l.shift / 10) + l.counter) % l.n) × (l.rest < l.n) × (l.counter ≤ l.end)

@@ -18,5 +18,4 @@ returns-in_ok-value-in-Tell g c =
       answer = ap (λ k. answered (desk_of ss d.rule) (event k) w) c.in-Tell.is ∙ t.outcome;
       after = ap (λ s. writing s (rule_of d.rule)) c.tell.ensures.same ∙ sym (ap (λ k. feed (desk_of ss d.rule) (event k)) c.in-Tell.is);
       within = λ u q. let p : v ≡ u = let z : reply.Value v ≡ reply.Value u = cc in cc in subst (λ x. Inside (length c.tell.new.buffer) (text_in x)) p t.inside;
-      stays = c.tell.ensures.stays;
     }

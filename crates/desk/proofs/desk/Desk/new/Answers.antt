@@ -4,4 +4,4 @@ use Rattle.desk.proofs.desk.Desk.new.Goals as goal
 
 pub returns : goal.returns
 unfolding fed
-returns g c = record { reached = ap (writing (g.S.Shelf.slots c.args.shelf)) c.new.ensures; sound = c.requires }
+returns g c = ap (writing (g.S.Shelf.slots c.args.shelf)) c.new.ensures

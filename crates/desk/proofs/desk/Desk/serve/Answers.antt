@@ -6,5 +6,4 @@ pub returns : goal.returns
 returns g c = record {
   served = serves (g.S.Shelf.slots c.args.self.now.shelf) c.args.self.now.rule (event c.args.call) c.args.work.now c.answer.result c.answer.new.work (g.S.Shelf.slots c.answer.new.self.shelf) c.answer.new.self.rule c.answer.ensures.answer c.answer.ensures.after;
   within = c.answer.ensures.within;
-  stays = c.answer.ensures.stays;
 }

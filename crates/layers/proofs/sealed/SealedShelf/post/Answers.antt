@@ -12,5 +12,4 @@ returns g c =
     record {
       answer = ap (λ r. bind r (λ _. Err Sealed)) c.in_ok-mark.ensures ∙ ap (λ (p : Posted). p.answer) e;
       after = ap (λ (p : Posted). p.after) e;
-      stays = c.requires;
     }

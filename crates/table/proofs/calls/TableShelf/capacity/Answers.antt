@@ -1,16 +1,16 @@
-use Rattle.std.proofs.Common.{sym}
+use Rattle.std.proofs.Common.{Ok, Err, ap, ◌∙◌}
+use Rattle.std.proofs.lemmas.Result.{err_from_is_err_and}
 use Rattle.shelf.specs.Slots.{Slot}
-use Rattle.shelf.proofs.Laws.{asked_some, asked_none}
-use Rattle.table.specs.Tables.{table_slots}
-use Rattle.table.proofs.Rowed.{past_rows, nth_rows}
+use Rattle.table.proofs.Asked.{asked_rows}
 use Rattle.table.proofs.calls.TableShelf.capacity.Goals as goal
 
-pub returns-then-slot-self : goal.returns-then-slot-self
-returns-then-slot-self c =
+pub returns-in_err-record : goal.returns-in_err-record
+returns-in_err-record c =
     let t = c.args.self.now in
-    sym (asked_none (table_slots t) c.args.slot (λ (s : Slot). s.capacity) (past_rows t.records.now t.texts.now t.capacity c.args.slot c.if-slot-self.true))
+    let p = err_from_is_err_and c.from_residual.result c.from_residual.ensures.1 in
+    p.1 ∙ ap Err p.2 ∙ asked_rows t.records.now t.texts.now t.capacity c.args.slot (λ (s : Slot). s.capacity) (Err c.in_err-record.field-0.0) c.in_err-record.ensures
 
 pub returns : goal.returns
 returns c =
     let t = c.args.self.now in
-    sym (asked_some (table_slots t) c.args.slot (λ (s : Slot). s.capacity) _ (nth_rows t.records.now t.texts.now t.capacity c.args.slot c.if-slot-self.false))
+    asked_rows t.records.now t.texts.now t.capacity c.args.slot (λ (s : Slot). s.capacity) (Ok c.in_ok-record.field-0) c.in_ok-record.ensures

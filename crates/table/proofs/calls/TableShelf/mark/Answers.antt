@@ -1,16 +1,11 @@
-use Rattle.std.proofs.Common.{sym}
+use Rattle.std.proofs.Common.{rules, ◌∙◌}
 use Rattle.shelf.specs.Slots.{Slot}
-use Rattle.shelf.proofs.Laws.{asked_some, asked_none}
-use Rattle.table.specs.Tables.{table_slots}
-use Rattle.table.proofs.Rowed.{past_rows, nth_rows}
+use Rattle.shelf.specs.declared.mark.Mark.TheVariants.{Open}
+use Rattle.table.proofs.Asked.{mapped, asked_rows}
 use Rattle.table.proofs.calls.TableShelf.mark.Goals as goal
-
-pub returns-then-slot-self : goal.returns-then-slot-self
-returns-then-slot-self c =
-    let t = c.args.self.now in
-    sym (asked_none (table_slots t) c.args.slot (λ (s : Slot). s.mark) (past_rows t.records.now t.texts.now t.capacity c.args.slot c.if-slot-self.true))
 
 pub returns : goal.returns
 returns c =
     let t = c.args.self.now in
-    sym (asked_some (table_slots t) c.args.slot (λ (s : Slot). s.mark) _ (nth_rows t.records.now t.texts.now t.capacity c.args.slot c.if-slot-self.false))
+    mapped c.record.result c.map.result (λ _. Open) c.map.ensures.cases (λ x y p. search rules)
+    ∙ asked_rows t.records.now t.texts.now t.capacity c.args.slot (λ (s : Slot). s.mark) c.record.result c.record.ensures

@@ -1,64 +1,98 @@
-use Rattle.std.proofs.Common.{◌<◌, ◌≤◌, set, sym, ap, ◌∙◌, arith}
+use Rattle.std.proofs.Common.{◌<◌, ◌≤◌, Err, set, sym, refl, ap, ◌∙◌, arith, rules, lt-length-set}
+use Rattle.std.specs.List.{slice_get}
+use Rattle.std.proofs.lemmas.Option.{slice_get_within}
+use Rattle.std.proofs.lemmas.Result.{err_from_is_err_and}
+use Rattle.fault.specs.declared.Fault.TheVariants.{Absent}
 use Rattle.value.specs.Values.{meaning, text_of, size}
 use Rattle.shelf.specs.Calls.{Posted}
 use Rattle.shelf.proofs.Laws.{posted_at_lem, posted_open, posted_over}
-use Rattle.table.specs.Rows.{rows, whole}
+use Rattle.table.specs.Rows.{blank, rows, whole}
 use Rattle.table.specs.Tables.{table_slots}
-use Rattle.table.proofs.Rowed.{past_rows, nth_rows, whole_at}
-use Rattle.table.proofs.Written.{with_text_lem, without_text, size_some, size_none}
+use Rattle.table.proofs.Asked.{found, missing}
+use Rattle.table.proofs.Rowed.{found_row, no_row, whole_at}
+use Rattle.table.proofs.Written.{said, size_text, blanked, room, copied, entered, stays}
 use Rattle.table.proofs.calls.TableShelf.post.Goals as goal
 
-pub returns-then-k-self : goal.returns-then-k-self
-returns-then-k-self c =
+pub returns-in_err-record : goal.returns-in_err-record
+returns-in_err-record c =
     let t = c.args.self.now in
-    let e = posted_at_lem (table_slots t) c.args.slot (meaning (λ x. x.now) c.args.value) _ (sym c.if-not-is_well_formed.ensures) (past_rows t.records.now t.texts.now t.capacity c.args.slot c.if-k-self.true) in
-    record { answer = sym (ap (λ (p : Posted). p.answer) e); after = sym (ap (λ (p : Posted). p.after) e); stays = c.requires }
+    let p = err_from_is_err_and c.from_residual.result c.from_residual.ensures.1 in
+    let q = missing Absent (slice_get t.records.now c.args.slot) c.in_err-record.field-0.0 c.in_err-record.ensures in
+    let e = posted_at_lem (table_slots t) c.args.slot (meaning (λ x. x.now) c.args.value) _ (sym c.if-not-is_well_formed.ensures) (no_row t.records.now t.texts.now t.capacity c.args.slot q.0) in
+    record {
+      answer = p.1 ∙ ap Err (p.2 ∙ q.1) ∙ sym (ap (λ (p : Posted). p.answer) e);
+      after = sym (ap (λ (p : Posted). p.after) e);
+    }
 
 pub returns-then-text-self : goal.returns-then-text-self
 returns-then-text-self c =
     let t = c.args.self.now in
     let m = meaning (λ x. x.now) c.args.value in
-    let z : t.capacity < size (text_of m) = omega (arith, size_some c.args.value c.in-Some.text (sym c.in-Some.ensures)) in
-    let e = posted_over (table_slots t) c.args.slot m t.capacity _ (sym c.if-not-is_well_formed.ensures) (nth_rows t.records.now t.texts.now t.capacity c.args.slot c.if-k-self.false) z in
-    record { answer = sym (ap (λ (p : Posted). p.answer) e); after = sym (ap (λ (p : Posted). p.after) e); stays = c.requires }
+    let f = found Absent (slice_get t.records.now c.args.slot) c.in_ok-record.field-0.now c.in_ok-record.ensures in
+    let z : t.capacity < size (text_of m) = omega (arith, size_text c.args.value _ _ c.unwrap_or-text.result c.text.ensures c.unwrap_or-text.ensures refl) in
+    let e = posted_over (table_slots t) c.args.slot m t.capacity _ (sym c.if-not-is_well_formed.ensures) (found_row t.records.now t.texts.now t.capacity c.args.slot _ f) z in
+    record { answer = sym (ap (λ (p : Posted). p.answer) e); after = sym (ap (λ (p : Posted). p.after) e) }
 
-pub overflow_mul-at : goal.overflow_mul-at
-overflow_mul-at c =
+pub bounds-self-k : goal.bounds-self-k
+bounds-self-k c =
     let t = c.args.self.now in
-    omega (arith, (whole_at t.records.now t.texts.now t.capacity c.args.slot c.if-k-self.false c.requires).within)
+    slice_get_within t.records.now c.args.slot _ (found Absent (slice_get t.records.now c.args.slot) c.in_ok-record.field-0.now c.in_ok-record.ensures)
+
+pub invariant_of-self : goal.invariant_of-self
+invariant_of-self c =
+    let t = c.args.self.now in
+    let f = found Absent (slice_get t.records.now c.args.slot) c.in_ok-record.field-0.now c.in_ok-record.ensures in
+    record { whole = blanked t.records.now t.texts.now t.capacity c.args.slot _ f t.whole }
+
+pub overflow_mul-k : goal.overflow_mul-k
+overflow_mul-k c =
+    let t = c.args.self.now in
+    let f = found Absent (slice_get t.records.now c.args.slot) c.in_ok-record.field-0.now c.in_ok-record.ensures in
+    omega (arith, (whole_at t.records.now t.texts.now t.capacity c.args.slot _ f t.whole).within)
 
 pub copy_in-requires : goal.copy_in-requires
 copy_in-requires c =
     let t = c.args.self.now in
-    omega (arith, (whole_at t.records.now t.texts.now t.capacity c.args.slot c.if-k-self.false c.requires).within)
+    let f = found Absent (slice_get t.records.now c.args.slot) c.in_ok-record.field-0.now c.in_ok-record.ensures in
+    room t.records.now t.texts.now t.capacity c.args.slot _ f t.whole c.unwrap_or-text.result.now c.if-text-self.false
 
-pub returns-else-text-self : goal.returns-else-text-self
-returns-else-text-self c =
+pub invariant_of-self-2 : goal.invariant_of-self-2
+invariant_of-self-2 c =
     let t = c.args.self.now in
-    let m = meaning (λ x. x.now) c.args.value in
-    let w = sym c.if-not-is_well_formed.ensures in
-    let z : size (text_of m) ≤ t.capacity = omega (arith, size_some c.args.value c.in-Some.text (sym c.in-Some.ensures)) in
-    let e = posted_open (table_slots t) c.args.slot m t.capacity _ w (nth_rows t.records.now t.texts.now t.capacity c.args.slot c.if-k-self.false) z in
-    let a = with_text_lem t.records.now t.texts.now t.capacity c.args.slot c.if-k-self.false c.requires c.args.value w c.in-Some.text c.copy_in.new.buffer (sym c.in-Some.ensures) (omega arith) c.copy_in.ensures in
-    let r = c.with_text.ensures in
+    let f = found Absent (slice_get t.records.now c.args.slot) c.in_ok-record.field-0.now c.in_ok-record.ensures in
     record {
-      answer = sym (ap (λ (p : Posted). p.answer) e);
-      after = ap (λ v. rows (set t.records.now c.args.slot (record { value = v })) c.copy_in.new.buffer t.capacity) r ∙ a.slots ∙ sym (ap (λ (p : Posted). p.after) e);
-      stays = ap (λ v. whole (set t.records.now c.args.slot (record { value = v })) c.copy_in.new.buffer t.capacity) r ∙ a.stays;
+      whole = ap (λ b. whole (set t.records.now c.args.slot blank) b t.capacity) c.copy_in.ensures
+          ∙ copied t.records.now t.texts.now t.capacity c.args.slot _ f t.whole c.unwrap_or-text.result.now c.if-text-self.false;
     }
 
-pub returns-in-None : goal.returns-in-None
-returns-in-None c =
+pub bounds-self-k-2 : goal.bounds-self-k-2
+bounds-self-k-2 c =
+    let t = c.args.self.now in
+    let f = found Absent (slice_get t.records.now c.args.slot) c.in_ok-record.field-0.now c.in_ok-record.ensures in
+    lt-length-set t.records.now c.args.slot blank (slice_get_within t.records.now c.args.slot _ f)
+
+pub invariant_of-self-3 : goal.invariant_of-self-3
+invariant_of-self-3 c =
+    let t = c.args.self.now in
+    let x = c.unwrap_or-text.result in
+    let f = found Absent (slice_get t.records.now c.args.slot) c.in_ok-record.field-0.now c.in_ok-record.ensures in
+    let s = said c.args.value _ _ x c.text.ensures c.unwrap_or-text.ensures in
+    record {
+      whole = ap (λ b. whole (set (set t.records.now c.args.slot blank) c.args.slot (record { value = c.map.result })) b t.capacity) c.copy_in.ensures
+          ∙ stays t.records.now t.texts.now t.capacity c.args.slot _ f t.whole x.now c.if-text-self.false _ (λ x n r. search rules) c.args.value c.map.result c.map.ensures s (sym c.if-not-is_well_formed.ensures);
+    }
+
+pub returns : goal.returns
+returns c =
     let t = c.args.self.now in
     let m = meaning (λ x. x.now) c.args.value in
-    let w = sym c.if-not-is_well_formed.ensures in
-    let none = sym c.in-None.ensures in
-    let z : size (text_of m) ≤ t.capacity = omega (arith, size_none c.args.value none) in
-    let e = posted_open (table_slots t) c.args.slot m t.capacity _ w (nth_rows t.records.now t.texts.now t.capacity c.args.slot c.if-k-self.false) z in
-    let a = without_text t.records.now t.texts.now t.capacity c.args.slot c.if-k-self.false c.requires c.args.value w none in
-    let r = c.with_text-in-None.ensures in
+    let x = c.unwrap_or-text.result in
+    let f = found Absent (slice_get t.records.now c.args.slot) c.in_ok-record.field-0.now c.in_ok-record.ensures in
+    let z : size (text_of m) ≤ t.capacity = omega (arith, size_text c.args.value _ _ x c.text.ensures c.unwrap_or-text.ensures refl) in
+    let e = posted_open (table_slots t) c.args.slot m t.capacity _ (sym c.if-not-is_well_formed.ensures) (found_row t.records.now t.texts.now t.capacity c.args.slot _ f) z in
     record {
       answer = sym (ap (λ (p : Posted). p.answer) e);
-      after = ap (λ v. rows (set t.records.now c.args.slot (record { value = v })) t.texts.now t.capacity) r ∙ a.slots ∙ sym (ap (λ (p : Posted). p.after) e);
-      stays = ap (λ v. whole (set t.records.now c.args.slot (record { value = v })) t.texts.now t.capacity) r ∙ a.stays;
+      after = ap (λ b. rows (set (set t.records.now c.args.slot blank) c.args.slot (record { value = c.map.result })) b t.capacity) c.copy_in.ensures
+          ∙ entered t.records.now t.texts.now t.capacity c.args.slot _ f t.whole x.now c.if-text-self.false _ (λ x n r. search rules) c.args.value c.map.result c.map.ensures (said c.args.value _ _ x c.text.ensures c.unwrap_or-text.ensures)
+          ∙ sym (ap (λ (p : Posted). p.after) e);
     }

@@ -1,4 +1,0 @@
-use Rattle.piles.proofs.hold_two.Goals as goal
-
-pub hold-requires : goal.hold-requires
-hold-requires c = c.new-pile.ensures.sound

@@ -1,0 +1,14 @@
+// The work buffer of a call.
+ghost use Rattle.std.specs.Prelude.{◌≤◌, length};
+
+use crate::made::Limits;
+
+// The work buffer, whose first `fill` bytes have texts; a new text goes behind them, within the limits.
+#[derive(Drop)]
+pub struct Work<'a> {
+    pub limits: Limits,
+    pub bytes: &'a mut [u8],
+    pub fill: usize,
+    ghost inside: { fill ≤ length bytes.now },
+    ghost short: { length bytes.now ≤ 65536 },
+}
