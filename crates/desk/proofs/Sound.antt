@@ -18,7 +18,6 @@ use Rattle.steps.specs.declared.step.Step.TheVariants.{Apply, Assign}
 use Rattle.rule.specs.Check.{Env, sets, bare, checked, kind_at, kinds_at, same_kind, fresh}
 use Rattle.rule.specs.Run.{values}
 use Rattle.rule.specs.Sets.{rows_over}
-use Rattle.rule.specs.declared.sets.Form.TheVariants.{Binary, Assigning}
 use Rattle.desk.specs.Law.{FromValues, Rowed}
 use Rattle.desk.proofs.Uniting.{ok_err, bind_ok, row_for}
 use Rattle.desk.proofs.Typed.{Fine, Typed, TypedIn, beside_ok, typed_pop, local_typed, step_fine}
@@ -125,8 +124,8 @@ module _ (l : Limits) (env was : Env) where
         let p₂ = bind_ok (beside tt (popped p.0.0.1)) _ _ p.2 in
         let x = typed_pop y.rest p.0.0.1 p₂.0.0.1 y.typed p₂.0.0.0 (beside_ok tt _ p₂.0.0 tt p₂.1) in
         let ax : (a ≡ x.value) × (entries st ls ≡ x.rest) = both_of (ap popped by.1 ∙ x.is) in
-        let p₃ = bind_ok (beside tt (rows_over Binary op p₂.0.0.0 p.0.0.0)) _ _ p₂.2 in
-        let c = row_for Binary op p₂.0.0.0 p.0.0.0 p₃.0.0 (kind_in x.value) (kind_in y.value) (beside_ok tt _ p₃.0.0 tt p₃.1) x.of y.of in
+        let p₃ = bind_ok (beside tt (rows_over (selected op) p₂.0.0.0 p.0.0.0)) _ _ p₂.2 in
+        let c = row_for (selected op) p₂.0.0.0 p.0.0.0 p₃.0.0 (kind_in x.value) (kind_in y.value) (beside_ok tt _ p₃.0.0 tt p₃.1) x.of y.of in
         (c.row, (λ i. selected op (kind_in (ax.0 i)) (kind_in (by.0 i))) ∙ c.is)
 
     assign_row : (op : Op) (i : ℕ) (b : Meaning) (st ls : List Meaning) (s s₁ : Entries KindSet) → TypedIn (entries (b ∷ st) ls) s → step (sets was) (Assign op i) s tt ≡ Ok (s₁, tt) → (u : KindSet) × (assign_selected op (kind_in (local (values l env) i (entries (b ∷ st) ls))) (kind_in b) ≡ Ok u)
@@ -135,8 +134,8 @@ module _ (l : Limits) (env was : Env) where
         let p = bind_ok (beside tt (popped s)) _ _ q in
         let y = typed_pop e s p.0.0.1 t p.0.0.0 (beside_ok tt _ p.0.0 tt p.1) in
         let by : (b ≡ y.value) × (entries st ls ≡ y.rest) = both_of y.is in
-        let p₂ = bind_ok (beside tt (rows_over Assigning op (local (sets was) i s) p.0.0.0)) _ _ p.2 in
-        let c = row_for Assigning op (local (sets was) i s) p.0.0.0 p₂.0.0 (kind_in (local (values l env) i e)) (kind_in y.value) (beside_ok tt _ p₂.0.0 tt p₂.1) (local_typed l env was e s s₁ t (room 0 []) i) y.of in
+        let p₂ = bind_ok (beside tt (rows_over (assign_selected op) (local (sets was) i s) p.0.0.0)) _ _ p.2 in
+        let c = row_for (assign_selected op) (local (sets was) i s) p.0.0.0 p₂.0.0 (kind_in (local (values l env) i e)) (kind_in y.value) (beside_ok tt _ p₂.0.0 tt p₂.1) (local_typed l env was e s s₁ t (room 0 []) i) y.of in
         (c.row, ap (λ v. assign_selected op (kind_in (local (values l env) i e)) (kind_in v)) by.0 ∙ c.is)
 
     -- where the walk is after `before`, in both machines

@@ -24,9 +24,8 @@ use Rattle.steps.specs.declared.step.Step.{Step}
 use Rattle.steps.specs.declared.step.Step.TheVariants.{Put, Slot, Local, Keep, Apply, Assign}
 use Rattle.rule.specs.Check.{Env, kind_now, sets, kind_at, same_kind}
 use Rattle.rule.specs.Run.{values, loaded}
-use Rattle.rule.specs.Sets.{rows_for, rows_over}
-use Rattle.rule.specs.declared.sets.Form.{Form}
-use Rattle.rule.specs.declared.sets.Form.TheVariants.{Binary, Assigning}
+use Rattle.rows.specs.Rows.{selected, assign_selected}
+use Rattle.rule.specs.Sets.{rows_over}
 use Rattle.desk.specs.Law.{FromValues}
 use Rattle.desk.proofs.Uniting.{ok_err, bind_ok, Sub, row_for}
 
@@ -152,19 +151,11 @@ fine_taken u row a b r (Ok left) sub i = sub (kind_in a) i.0
 fine_taken u row a b r (Ok right) sub i = sub (kind_in b) i.0
 fine_taken u row a b r (Ok (fresh m)) sub i = fine_brought (λ v. has u (kind_in v) ≡ true) m r (sub (kind_in m) i.0)
 
--- an operator of either form
-abbrev pub comes_to : Form → Limits → Op → Meaning → Meaning → Result Given Fault
-comes_to Binary = applied
-comes_to Assigning = applied_assign
-
-as_rows : (form : Form) (l : Limits) (op : Op) (a b : Meaning) → Listed (rows_for form op (kind_in a) (kind_in b)) a b (comes_to form l op a b)
-as_rows Binary l op a b = (apply_as_selected l op a b).0
-as_rows Assigning l op a b = (apply_as_selected l op a b).1
-
-pub fine_operator : (form : Form) (l : Limits) (op : Op) (s t u : KindSet) (a b : Meaning) (r : Room) → rows_over form op s t ≡ Ok u → has s (kind_in a) ≡ true → has t (kind_in b) ≡ true → Fine (λ v. has u (kind_in v) ≡ true) (taken a b r (comes_to form l op a b))
-fine_operator form l op s t u a b r e ha hb =
-    let c = row_for form op s t u (kind_in a) (kind_in b) e ha hb in
-    fine_taken u c.row a b r (comes_to form l op a b) c.sub (subst (λ o. Listed o a b (comes_to form l op a b)) c.is (as_rows form l op a b))
+-- an operator of either form, by the rows that speak for it
+pub fine_operator : (rows : Kind → Kind → Result KindSet Fault) (given : Result Given Fault) (s t u : KindSet) (a b : Meaning) (r : Room) → Listed (rows (kind_in a) (kind_in b)) a b given → rows_over rows s t ≡ Ok u → has s (kind_in a) ≡ true → has t (kind_in b) ≡ true → Fine (λ v. has u (kind_in v) ≡ true) (taken a b r given)
+fine_operator rows given s t u a b r listed e ha hb =
+    let c = row_for rows s t u (kind_in a) (kind_in b) e ha hb in
+    fine_taken u c.row a b r given c.sub (subst (λ o. Listed o a b given) c.is listed)
 
 -- ---- steps
 
@@ -201,25 +192,25 @@ module _ (l : Limits) (env was : Env) where
         let b = typed_pop e s p.0.0.1 t p.0.0.0 (beside_ok tt _ p.0.0 tt p.1) in
         let p₂ = bind_ok (beside tt (popped p.0.0.1)) _ _ p.2 in
         let a = typed_pop b.rest p.0.0.1 p₂.0.0.1 b.typed p₂.0.0.0 (beside_ok tt _ p₂.0.0 tt p₂.1) in
-        let p₃ = bind_ok (beside tt (rows_over Binary op p₂.0.0.0 p.0.0.0)) _ _ p₂.2 in
+        let p₃ = bind_ok (beside tt (rows_over (selected op) p₂.0.0.0 p.0.0.0)) _ _ p₂.2 in
         let u = p₃.0.0 in
         subst (λ o. After s₁ (bind (beside r o) (λ b. bind (beside r (popped b.0.1)) (λ a. bind (taken a.0.0 b.0.0 r (applied l op a.0.0 b.0.0)) (λ x. beside x.1 (pushed x.0 a.0.1)))))) (sym b.is)
         (subst (λ o. After s₁ (bind (beside r o) (λ a. bind (taken a.0.0 b.value r (applied l op a.0.0 b.value)) (λ x. beside x.1 (pushed x.0 a.0.1))))) (sym a.is)
         (fine_bind (λ v. has u (kind_in v) ≡ true) (λ e₁. TypedIn e₁ s₁) (taken a.value b.value r (applied l op a.value b.value)) _
-        (fine_operator Binary l op p₂.0.0.0 p.0.0.0 u a.value b.value r (beside_ok tt _ u tt p₃.1) a.of b.of)
+        (fine_operator (selected op) (applied l op a.value b.value) p₂.0.0.0 p.0.0.0 u a.value b.value r (apply_as_selected l op a.value b.value).0 (beside_ok tt _ u tt p₃.1) a.of b.of)
         (λ v w h. typed_push a.rest p₂.0.0.1 s₁ a.typed v u w h (beside_ok tt _ s₁ tt p₃.2))))
 
     assign_fine : (op : Op) (i : ℕ) → step (sets was) (Assign op i) s tt ≡ Ok (s₁, tt) → After s₁ (step (values l env) (Assign op i) e r)
     assign_fine op i q =
         let p = bind_ok (beside tt (popped s)) _ _ q in
         let b = typed_pop e s p.0.0.1 t p.0.0.0 (beside_ok tt _ p.0.0 tt p.1) in
-        let p₂ = bind_ok (beside tt (rows_over Assigning op (local (sets was) i s) p.0.0.0)) _ _ p.2 in
+        let p₂ = bind_ok (beside tt (rows_over (assign_selected op) (local (sets was) i s) p.0.0.0)) _ _ p.2 in
         let u = p₂.0.0 in
         let a = local (values l env) i e in
         let is : kept i u p.0.0.1 ≡ s₁ = let z : ◌≡◌ {A = Result (Entries KindSet × Unit {0}) (Fault × Unit {0})} (Ok (kept i u p.0.0.1, tt)) (Ok (s₁, tt)) = p₂.2 in let y : ◌≡◌ {A = Entries KindSet × Unit {0}} (kept i u p.0.0.1, tt) (s₁, tt) = cc in ap (λ o. o.0) y in
         subst (λ o. After s₁ (bind (beside r o) (λ b. bind (taken a b.0.0 r (applied_assign l op a b.0.0)) (λ x. Ok (kept i x.0 b.0.1, x.1))))) (sym b.is)
         (fine_bind (λ v. has u (kind_in v) ≡ true) (λ e₁. TypedIn e₁ s₁) (taken a b.value r (applied_assign l op a b.value)) _
-        (fine_operator Assigning l op (local (sets was) i s) p.0.0.0 u a b.value r (beside_ok tt _ u tt p₂.1) (local_typed i) b.of)
+        (fine_operator (assign_selected op) (applied_assign l op a b.value) (local (sets was) i s) p.0.0.0 u a b.value r (apply_as_selected l op a b.value).1 (beside_ok tt _ u tt p₂.1) (local_typed i) b.of)
         (λ v w h. subst (TypedIn (kept i v b.rest)) is (record { stack = b.typed.stack; locals = typed_set b.rest.locals p.0.0.1.locals i v u h b.typed.locals })))
 
     pub step_fine : (x : Step) → same_kind (kind_at env x) (kind_at was x) ≡ true → step (sets was) x s tt ≡ Ok (s₁, tt) → After s₁ (step (values l env) x e r)

@@ -7,10 +7,8 @@ use Rattle.fault.specs.declared.Fault.{Fault}
 use Rattle.value.specs.Kinds.{kinds, kind_number, set, has, united}
 use Rattle.value.specs.declared.kind.Kind.{Kind}
 use Rattle.value.specs.declared.kind.Kind.TheVariants as kind
-use Rattle.value.specs.declared.op.Op.{Op}
 use Rattle.value.specs.declared.set.KindSet.{KindSet}
-use Rattle.rule.specs.Sets.{rows_for, gather, rows_right, rows_over}
-use Rattle.rule.specs.declared.sets.Form.{Form}
+use Rattle.rule.specs.Sets.{gather, rows_right, rows_over}
 
 pub ok_err : {A E : Type 0} (a : A) (e : E) → ◌≡◌ {A = Result A E} (Err e) (Ok a) → ⊥
 ok_err a e q = let z : ◌≡◌ {A = ℕ} 0 1 = cc in omega arith
@@ -88,8 +86,8 @@ module _ (f : Kind → Result KindSet Fault) (t : KindSet) where
             m
       ]) e refl
 
-pub row_for : (form : Form) (op : Op) (s t u : KindSet) (a b : Kind) → rows_over form op s t ≡ Ok u → has s a ≡ true → has t b ≡ true → Covered (rows_for form op a) t b u
-row_for form op s t u a b e ha hb =
-    let p = covers (rows_right form op t) s (set 0) u kinds a e ha (in_kinds a) in
-    let q = covers (rows_for form op a) t (set 0) p.row kinds b p.is hb (in_kinds b) in
+pub row_for : (rows : Kind → Kind → Result KindSet Fault) (s t u : KindSet) (a b : Kind) → rows_over rows s t ≡ Ok u → has s a ≡ true → has t b ≡ true → Covered (rows a) t b u
+row_for rows s t u a b e ha hb =
+    let p = covers (rows_right rows t) s (set 0) u kinds a e ha (in_kinds a) in
+    let q = covers (rows a) t (set 0) p.row kinds b p.is hb (in_kinds b) in
     record { row = q.row; is = q.is; sub = λ k h. p.sub k (q.sub k h) }

@@ -22,7 +22,7 @@ rest_beside : {A : Type 0} (rest : List ℕ) (fill : ℕ) (work : List ℕ) (r :
 rest_beside rest fill work (Ok a) = refl
 rest_beside rest fill work (Err e) = refl
 
--- what the walk leaves behind the machine's reference to the buffer
+-- what the walk leaves in a buffer without texts
 pub comes_walks : (l : Limits) (env : Env) (xs : List Step) (work : List ℕ) (r : Result (Value Span) Refusal) (work' : List ℕ) (fill' : ℕ) (left : List ℕ) → left ≡ work' → Comes (meant work') (Held work' fill') (room fill' work') (walk (values l env) xs (room 0 work)) r → Grown work 0 work' fill' → Walks l env xs work r left
 comes_walks l env xs work r work' fill' left q c g = subst (Walks l env xs work r) (sym q) (record {
   outcome = λ rest. ap (with_rest rest) c.outcome ∙ rest_beside rest fill' work' (bind r (λ v. Ok (meant work' v)));

@@ -12,8 +12,8 @@ use Rattle.fault.specs.Outcomes.{Outcome, beside}
 use Rattle.steps.specs.Walk.{Machine, walk}
 use Rattle.steps.specs.declared.step.Step.{Step}
 use Rattle.steps.specs.declared.step.Step.TheVariants.{Put, Slot, Local, Keep, Apply, Assign}
+use Rattle.rows.specs.Rows.{selected, assign_selected}
 use Rattle.rule.specs.Sets.{rows_over}
-use Rattle.rule.specs.declared.sets.Form.TheVariants.{Binary, Assigning}
 
 -- the value of each slot by its number, where there is the slot
 abbrev pub Env : Type 0
@@ -26,8 +26,8 @@ abbrev pub sets : Env → Machine Unit KindSet
 sets env = record {
   put = λ m. single (kind_in m);
   load = λ s w. beside w (ok_or (option_map single (kind_now env s)) Absent);
-  apply = λ op a b w. beside w (rows_over Binary op a b);
-  assign = λ op a b w. beside w (rows_over Assigning op a b);
+  apply = λ op a b w. beside w (rows_over (selected op) a b);
+  assign = λ op a b w. beside w (rows_over (assign_selected op) a b);
 }
 
 -- without the world, which is empty

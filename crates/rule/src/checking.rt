@@ -4,9 +4,10 @@ ghost use Rattle.shelf.specs.Slots.{holding};
 ghost use Rattle.steps.specs.Steps.{all_taken};
 ghost use Rattle.rule.specs.Check.{sets, checked, kind_at, kinds_at, fresh};
 
-use crate::sets::{Form, select_sets};
+use crate::sets::select_sets;
 use arrayvec::ArrayVec;
 use fault::{Fault, Refusal};
+use operators::{FnAssign, FnBuiltin};
 use shelf::Shelf;
 use steps::{Machine, Step, walk};
 use text::Span;
@@ -53,11 +54,11 @@ impl<S: Shelf> Machine for Sets<'_, S> {
     }
 
     fn apply(&mut self, op: Op, left: KindSet, right: KindSet) -> Result<KindSet, Fault> {
-        select_sets(Form::Binary, op, left, right)
+        select_sets::<FnBuiltin>(op, left, right)
     }
 
     fn assign(&mut self, op: Op, local: &mut KindSet, right: KindSet) -> Result<(), Fault> {
-        *local = select_sets(Form::Assigning, op, *local, right)?;
+        *local = select_sets::<FnAssign>(op, *local, right)?;
         Ok(())
     }
 }

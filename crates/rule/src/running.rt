@@ -2,10 +2,17 @@
 ghost use Rattle.std.specs.Prelude.{◌≡◌, ◌≤◌, true, length};
 ghost use Rattle.shelf.specs.Slots.{holding};
 ghost use Rattle.steps.specs.Steps.{all_taken};
-ghost use Rattle.rule.specs.Run.{walked, Walks, Ends};
+ghost use Rattle.routines.specs.Works.{Kept};
+ghost use Rattle.operators.specs.Rooms.{room, Gives};
+ghost use Rattle.value.specs.Values.{meant};
+ghost use Rattle.operators.specs.Applied.{Held};
+ghost use Rattle.steps.specs.Machines.{Comes};
+ghost use Rattle.steps.specs.Walk.{walk as stepped};
+ghost use Rattle.rule.specs.Later.{Later};
+ghost use Rattle.rule.specs.Run.{loaded, values, walked, Walks, Ends};
 
 use fault::{Fault, Refusal};
-use operators::{apply_held, assign_held};
+use operators::{FnBuiltin, Work, apply_held, assign_held};
 use routines::Limits;
 use shelf::Shelf;
 use steps::{Machine, Step, walk};
@@ -15,25 +22,31 @@ use value::{Op, Value};
 // As much of the work buffer is used as one text may have.
 const MOST: usize = 65536;
 
-// The machine of a run: texts have the first `fill` bytes.
-#[derive(Drop)]
-struct Values<'a, S> {
-    shelf: &'a mut S,
-    limits: Limits,
-    bytes: &'a mut [u8],
-    fill: usize,
-    ghost inside: { fill ≤ length bytes.now },
-    ghost short: { length bytes.now ≤ 65536 },
+// The value of a slot, its text behind the others.
+fn load<S: Shelf>(slot: u32, shelf: &mut S, work: &mut Work) -> Result<Value<Span>, Fault>
+    ensures gives { Gives work.old.bytes.now work.old.fill (loaded (holding (S.slots shelf.old) slot) (room work.old.fill work.old.bytes.now)) result work.new.bytes.now work.new.fill }
+    ensures kept { Kept work.old work.new }
+    ensures same { S.slots shelf.new ≡ S.slots shelf.old }
+{
+    let value = shelf.tell(slot, work.bytes, work.fill)?;
+    if let Some(span) = value.text() {
+        work.fill = span.start + span.len;
+    }
+    Ok(value)
 }
 
-impl<S: Shelf> Machine for Values<'_, S> {
+// The machine of a run: a slot's text goes to the work buffer, as a new one does.
+#[derive(Drop)]
+struct Values<'a, 'b, S> {
+    shelf: &'a mut S,
+    work: &'a mut Work<'b>,
+}
+
+impl<S: Shelf> Machine for Values<'_, '_, S> {
     ghost use Rattle.std.proofs.Common.{refl, ◌∙◌};
-    ghost use Rattle.value.specs.Values.{Meaning, meant};
-    ghost use Rattle.operators.specs.Applied.{Held};
-    ghost use Rattle.operators.specs.Rooms.{Room, room, Grown};
-    ghost use Rattle.rule.specs.Run.{values};
-    ghost use Rattle.operators.proofs.Roomed.{grown_none};
-    ghost use Rattle.rule.specs.Later.{grown_on, kept};
+    ghost use Rattle.value.specs.Values.{Meaning};
+    ghost use Rattle.operators.specs.Rooms.{Room};
+    ghost use Rattle.rule.specs.Later.{later_itself, later_on, later_keeps};
 
     type Entry = Value<Span>;
 
@@ -41,21 +54,21 @@ impl<S: Shelf> Machine for Values<'_, S> {
 
     ghost Meant = { Meaning };
 
-    ghost does = { λ m. values m.limits (holding (S.slots m.shelf.now)) };
+    ghost does = { λ m. values m.work.now.limits (holding (S.slots m.shelf.now)) };
 
-    ghost world = { λ m. room m.fill m.bytes.now };
+    ghost world = { λ m. room m.work.now.fill m.work.now.bytes.now };
 
-    ghost means = { λ m v. meant m.bytes.now v };
+    ghost means = { λ m v. meant m.work.now.bytes.now v };
 
-    ghost holds = { λ m v. Held m.bytes.now m.fill v };
+    ghost holds = { λ m v. Held m.work.now.bytes.now m.work.now.fill v };
 
-    ghost later = { λ a b. (S.slots b.shelf.now ≡ S.slots a.shelf.now) × (b.shelf.ghost_name ≡ a.shelf.ghost_name) × (b.limits ≡ a.limits) × (b.bytes.ghost_name ≡ a.bytes.ghost_name) × Grown a.bytes.now a.fill b.bytes.now b.fill };
+    ghost later = { λ a b. (b.shelf.ghost_name ≡ a.shelf.ghost_name) × (b.work.ghost_name ≡ a.work.ghost_name) × Later (S.slots a.shelf.now) a.work.now (S.slots b.shelf.now) b.work.now };
 
-    ghost at_once = { λ a. (refl, refl, refl, refl, grown_none a.bytes.now a.fill a.inside) };
+    ghost at_once = { λ a. (refl, refl, later_itself (S.slots a.shelf.now) a.work.now) };
 
-    ghost leads_on = { λ a b c p q. (q.0 ∙ p.0, q.1 ∙ p.1, q.2 ∙ p.2, q.3 ∙ p.3, grown_on a.bytes.now a.fill b.bytes.now b.fill c.bytes.now c.fill p.4 q.4) };
+    ghost leads_on = { λ a b c p q. (q.0 ∙ p.0, q.1 ∙ p.1, later_on (S.slots a.shelf.now) a.work.now (S.slots b.shelf.now) b.work.now (S.slots c.shelf.now) c.work.now p.2 q.2) };
 
-    ghost keeps = { λ a b p. kept a.limits b.limits (S.slots a.shelf.now) (S.slots b.shelf.now) a.bytes.now a.fill b.bytes.now b.fill p.0 p.2 p.4 };
+    ghost keeps = { λ a b p. later_keeps (S.slots a.shelf.now) a.work.now (S.slots b.shelf.now) b.work.now p.2 };
 
     fn put(&self, literal: Value<Span>) -> Value<Span> {
         match literal {
@@ -64,13 +77,8 @@ impl<S: Shelf> Machine for Values<'_, S> {
         }
     }
 
-    // The text goes behind the others.
     fn load(&mut self, slot: u32) -> Result<Value<Span>, Fault> {
-        let value = self.shelf.tell(slot, self.bytes, self.fill)?;
-        if let Some(span) = value.text() {
-            self.fill = span.start + span.len;
-        }
-        Ok(value)
+        load(slot, self.shelf, self.work)
     }
 
     fn apply(
@@ -79,14 +87,7 @@ impl<S: Shelf> Machine for Values<'_, S> {
         left: Value<Span>,
         right: Value<Span>,
     ) -> Result<Value<Span>, Fault> {
-        apply_held(
-            op,
-            left,
-            right,
-            self.limits,
-            self.bytes,
-            &mut self.fill,
-        )
+        apply_held::<FnBuiltin>(op, left, right, self.work)
     }
 
     fn assign(
@@ -95,15 +96,23 @@ impl<S: Shelf> Machine for Values<'_, S> {
         local: &mut Value<Span>,
         right: Value<Span>,
     ) -> Result<(), Fault> {
-        assign_held(
-            op,
-            local,
-            right,
-            self.limits,
-            self.bytes,
-            &mut self.fill,
-        )
+        assign_held(op, local, right, self.work)
     }
+}
+
+// The walk behind the texts of the work buffer.
+fn walk_behind<S: Shelf>(
+    steps: &[Step],
+    shelf: &mut S,
+    work: &mut Work,
+) -> Result<Value<Span>, Refusal>
+    requires { all_taken steps.now ≡ true }
+    ensures comes { Comes (meant work.new.bytes.now) (Held work.new.bytes.now work.new.fill) (room work.new.fill work.new.bytes.now) (stepped (values work.old.limits (holding (S.slots shelf.old))) steps.now (room work.old.fill work.old.bytes.now)) result }
+    ensures later { Later (S.slots shelf.old) work.old (S.slots shelf.new) work.new }
+    ensures kept { Kept work.old work.new }
+{
+    let mut machine = Values { shelf, work };
+    walk(steps, &mut machine)
 }
 
 // The walk in a work buffer of at most 65,536 bytes.
@@ -118,13 +127,12 @@ fn walk_steps<S: Shelf>(
     ensures walks { Walks limits (holding (S.slots shelf.old)) steps.now bytes.old result bytes.new }
     ensures same { S.slots shelf.new ≡ S.slots shelf.old }
 {
-    let mut machine = Values {
-        shelf,
+    let mut work = Work {
         limits,
         bytes,
         fill: 0,
     };
-    walk(steps, &mut machine)
+    walk_behind(steps, shelf, &mut work)
 }
 
 // The walk in the first 65,536 bytes of a work buffer.

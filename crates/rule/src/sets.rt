@@ -1,54 +1,38 @@
 // Operators on sets of kinds, for a check.
-ghost use Rattle.std.specs.Prelude.{◌≡◌};
-ghost use Rattle.rule.specs.Sets.{rows_for, gather, rows_right, rows_over};
+ghost use Rattle.std.specs.Prelude.{◌≡◌, Result};
+ghost use Rattle.fault.specs.declared.Fault.{Fault as Reason};
+ghost use Rattle.value.specs.Kinds.{set, kinds};
+ghost use Rattle.value.specs.declared.kind.Kind.{Kind as One};
+ghost use Rattle.value.specs.declared.set.KindSet.{KindSet as Some};
+ghost use Rattle.rows.specs.Rows.{selected_by};
+ghost use Rattle.rule.specs.Sets.{gather, rows_over};
 
 use fault::Fault;
-use rows::{select, select_assign};
+use rows::{Routine, select};
 use value::kind::KINDS;
 use value::{Kind, KindSet, Op};
 
-// Whether an operator gives a value or assigns to its left operand.
-#[derive(Clone, Copy)]
-pub enum Form {
-    Binary,
-    Assigning,
-}
-
-fn select_in(form: Form, op: Op, a: Kind, b: Kind) -> Result<KindSet, Fault>
-    ensures { result ≡ rows_for form op a b }
+// The union of what `f` gives for each kind of the set, or its first refusal.
+fn gather<F: Fn(Kind) -> Result<KindSet, Fault>>(of: KindSet, f: F) -> Result<KindSet, Fault>
+    requires { F.IsAlwaysCallable f }
+    ensures { (gives : One → Result Some Reason) → ((k : One) (r : Result Some Reason) → F.post f k r → r ≡ gives k) → result ≡ gather gives of (set 0) kinds }
 {
-    match form {
-        Form::Binary => select(op, a, b),
-        Form::Assigning => select_assign(op, a, b),
-    }
-}
-
-fn select_right(form: Form, op: Op, a: Kind, right: KindSet) -> Result<KindSet, Fault>
-    ensures { result ≡ rows_right form op right a }
-{
-    let mut all = KindSet { bits: 0 };
-    for b in KINDS {
-        if right.has(b) {
-            all = all.union(select_in(form, op, a, b)?);
+    let mut all = KindSet::default();
+    for kind in KINDS {
+        if of.has(kind) {
+            all = all.union(f(kind)?);
         }
     }
     Ok(all)
 }
 
 // The union of what the operator can give for a kind of each set, which takes a row for every pair.
-pub(crate) fn select_sets(
-    form: Form,
+pub(crate) fn select_sets<R: Routine>(
     op: Op,
     left: KindSet,
     right: KindSet,
 ) -> Result<KindSet, Fault>
-    ensures { result ≡ rows_over form op left right }
+    ensures { result ≡ rows_over (selected_by R.finds R.gives op) left right }
 {
-    let mut all = KindSet { bits: 0 };
-    for a in KINDS {
-        if left.has(a) {
-            all = all.union(select_right(form, op, a, right)?);
-        }
-    }
-    Ok(all)
+    gather(left, |a| gather(right, |b| select::<R>(op, a, b)))
 }
