@@ -24,6 +24,7 @@ const MOST: usize = 65536;
 
 // The value of a slot, its text behind the others.
 fn load<S: Shelf>(slot: u32, shelf: &mut S, work: &mut Work) -> Result<Value<Span>, Fault>
+    requires { length work.old.bytes.now ≤ 65536 }
     ensures gives { Gives work.old.bytes.now work.old.fill (loaded (holding (S.slots shelf.old) slot) (room work.old.fill work.old.bytes.now)) result work.new.bytes.now work.new.fill }
     ensures kept { Kept work.old work.new }
     ensures same { S.slots shelf.new ≡ S.slots shelf.old }
@@ -37,12 +38,13 @@ fn load<S: Shelf>(slot: u32, shelf: &mut S, work: &mut Work) -> Result<Value<Spa
 
 // The machine of a run: a slot's text goes to the work buffer, as a new one does.
 #[derive(Drop)]
-struct Values<'a, 'b, S> {
+struct Values<'a, 'b, 'c, S> {
     shelf: &'a mut S,
-    work: &'a mut Work<'b>,
+    work: &'b mut Work<'c>,
+    ghost short: { length work.now.bytes.now ≤ 65536 },
 }
 
-impl<S: Shelf> Machine for Values<'_, '_, S> {
+impl<S: Shelf> Machine for Values<'_, '_, '_, S> {
     ghost use Rattle.std.proofs.Common.{refl, ◌∙◌};
     ghost use Rattle.value.specs.Values.{Meaning};
     ghost use Rattle.operators.specs.Rooms.{Room};
@@ -106,7 +108,8 @@ fn walk_behind<S: Shelf>(
     shelf: &mut S,
     work: &mut Work,
 ) -> Result<Value<Span>, Refusal>
-    requires { all_taken steps.now ≡ true }
+    requires taken { all_taken steps.now ≡ true }
+    requires short { length work.old.bytes.now ≤ 65536 }
     ensures comes { Comes (meant work.new.bytes.now) (Held work.new.bytes.now work.new.fill) (room work.new.fill work.new.bytes.now) (stepped (values work.old.limits (holding (S.slots shelf.old))) steps.now (room work.old.fill work.old.bytes.now)) result }
     ensures later { Later (S.slots shelf.old) work.old (S.slots shelf.new) work.new }
     ensures kept { Kept work.old work.new }
