@@ -5,7 +5,7 @@
 mod tests {
     use desk::{Call, Reply, session};
     use fault::{Fault, Refusal};
-    use operators::{apply, apply_assign};
+    use operators::{FnAssign, FnBuiltin, apply};
     use routines::{Limits, Made};
     use std::test::Fail;
     use steps::Step;
@@ -16,18 +16,17 @@ mod tests {
 
     // How many bytes a new str has, or why there is none.
     fn length(answer: Result<Made, Fault>) -> Result<usize, Fault> {
-        match answer {
-            Ok(Made::New(Value::Str(span))) => Ok(span.len),
-            Ok(_) => Ok(0),
-            Err(fault) => Err(fault),
-        }
+        answer.map(|made| match made {
+            Made::New(Value::Str(span)) => span.len,
+            _ => 0,
+        })
     }
 
     #[test]
     fn buffer_exactly_full(rt: HostRuntime) {
         let mut buffer = [7u8; 4];
         assert_eq!(rt;
-            length(apply(
+            length(apply::<FnBuiltin>(
                 Op::Plus,
                 Value::Str(b"ab"),
                 Value::Str(b"cd"),
@@ -43,7 +42,7 @@ mod tests {
     fn buffer_one_short(rt: HostRuntime) {
         let mut buffer = [7u8; 3];
         assert_eq!(rt;
-            length(apply(
+            length(apply::<FnBuiltin>(
                 Op::Plus,
                 Value::Str(b"ab"),
                 Value::Str(b"cd"),
@@ -60,7 +59,7 @@ mod tests {
         let mut buffer = [7u8; 3];
         let limits = Limits { string: 3, blob: 0 };
         assert_eq!(rt;
-            length(apply(
+            length(apply::<FnBuiltin>(
                 Op::Plus,
                 Value::Str(b"ab"),
                 Value::Str(b"cd"),
@@ -75,7 +74,7 @@ mod tests {
     fn rest_of_the_buffer_stays(rt: HostRuntime) {
         let mut buffer = [7u8; 6];
         assert_eq!(rt;
-            length(apply_assign(
+            length(apply::<FnAssign>(
                 Op::Plus,
                 Value::Str(b"ab"),
                 Value::Char('c'),
@@ -93,7 +92,7 @@ mod tests {
         let right = [b'b'; 25537];
         let mut buffer = [0u8; 70000];
         assert_eq!(rt;
-            length(apply(
+            length(apply::<FnBuiltin>(
                 Op::Plus,
                 Value::Str(&left),
                 Value::Str(&right[0..25536]),
@@ -103,7 +102,7 @@ mod tests {
             Ok(65536)
         );
         assert_eq!(rt;
-            length(apply(
+            length(apply::<FnBuiltin>(
                 Op::Plus,
                 Value::Str(&left),
                 Value::Str(&right),
@@ -118,14 +117,14 @@ mod tests {
     fn overlong_operand(rt: HostRuntime) {
         let text = [b'a'; 65537];
         let mut buffer = [0u8; 8];
-        let longest = length(apply(
+        let longest = length(apply::<FnBuiltin>(
             Op::EqualsTo,
             Value::Blob(&text[0..65536]),
             Value::Blob(&text[0..1]),
             NONE,
             &mut buffer,
         ));
-        let overlong = length(apply(
+        let overlong = length(apply::<FnBuiltin>(
             Op::EqualsTo,
             Value::Blob(&text[0..65537]),
             Value::Blob(&text[0..1]),
