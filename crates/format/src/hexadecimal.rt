@@ -38,6 +38,7 @@ pub fn read_pairs(bytes: &[u8], out: &mut [u8]) -> Option<usize>
     if digits.len() > out.len() {
         return None;
     }
+    // By index: through a `zip` with `out.iter_mut()`, what a refusal leaves in `out` has no name in a proof.
     for (i, [high, low]) in digits.iter().enumerate() {
         out[i] = hex_digit(*high)? * 16 + hex_digit(*low)?;
     }

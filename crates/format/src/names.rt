@@ -61,7 +61,7 @@ impl Named for Op {
 }
 
 // The first of these that the bytes name.
-pub fn first_named<T: Named>(bytes: &[u8], all: &[T]) -> Option<T>
+fn first_named<T: Named>(bytes: &[u8], all: &[T]) -> Option<T>
     ensures { result ≡ named T.name all.now bytes.now }
 {
     all.iter().find(|x| bytes == x.name().as_bytes()).copied()
