@@ -59,5 +59,10 @@ fn main(rt: HostRuntime) -> io::Result<()> {
     let mut records = [Record { value: Value::Unit }; 2];
     let mut texts = [0u8; 32];
     let mut bench = Bench::new(new_table(&mut records, &mut texts, 16));
-    measure(&rt, "run of 21 steps", count, |_| run_once(&mut bench, &mut work))
+    measure(
+        &rt,
+        "run of 21 steps",
+        count,
+        |_| run_once(&mut bench, &mut work),
+    )
 }
