@@ -5,7 +5,7 @@ ghost use Rattle.cases.specs.Cases.{spelled, form_named, case_of};
 
 use format::cuts::cut_at;
 
-// Whether an operator gives a value or assigns to its left operand.
+// Whether an operator gives a value or assigns to its left operand; a line says which.
 #[derive(Clone, Copy)]
 pub enum Form {
     Apply,

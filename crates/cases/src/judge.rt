@@ -16,6 +16,7 @@ use value::{Kind, Op, Value, lend};
 
 const MOST: usize = 65536;
 
+// Three buffers of fixed size, so that a case takes no memory.
 #[derive(Drop)]
 pub struct Judge {
     left: [u8; MOST],

@@ -15,7 +15,7 @@ use std::io::Write;
 #[derive(Drop)]
 pub struct Clerk<S: Shelf> {
     pub desk: Desk<S>,
-    // where a posted text is read
+    // where a posted text is read; both buffers are fixed, so that a line takes no memory
     pub scratch: Scratch,
     // where a run puts texts
     pub work: [u8; 4096],

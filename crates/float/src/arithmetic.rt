@@ -7,6 +7,7 @@ ghost use Rattle.float.specs.Operations.{computed_float};
 use crate::remainder::remainder;
 use std::num::nearest_i64_to_f64;
 
+// An enum in the place of function pointers, which no function may hand out.
 #[derive(Clone, Copy, PartialEq, Eq, Debug)]
 pub enum FloatArithmetic {
     Add,

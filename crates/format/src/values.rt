@@ -24,7 +24,7 @@ pub fn read_float(bytes: &[u8]) -> Option<f64>
     Some(f64::from_bits(bits))
 }
 
-// The bits of a float, the same for every NaN.
+// The bits of a float, the same for every NaN; the library's `to_bits` takes none.
 pub fn float_bits(x: f64) -> u64
     ensures { result ≡ to_bits binary64 x }
 {

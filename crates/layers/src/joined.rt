@@ -47,6 +47,7 @@ impl<P: Shelf, Q: Shelf> Joined<P, Q> {
     }
 }
 
+// The questions are alike, and stay: each is asked of either shelf by another method of theirs.
 impl<P: Shelf, Q: Shelf> Shelf for Joined<P, Q> {
     ghost slots = { λ s. joined (P.Shelf.slots s.first) (Q.Shelf.slots s.second) };
 

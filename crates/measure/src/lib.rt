@@ -39,7 +39,7 @@ pub extern "C" fn margins_select(op: u8, left: u8, right: u8) -> i32
     as_number(try_select::<FnBuiltin>(op, left, right))
 }
 
-// The same for the assigning form: the kinds that the left operand can have afterwards.
+// The same for the assigning form: the kinds that the left operand can have afterwards. (C calls each by its name.)
 #[unsafe(no_mangle)]
 pub extern "C" fn margins_select_assign(op: u8, left: u8, right: u8) -> i32
     ensures { result ≡ numbered (selected_by assign_selected op left right) }

@@ -44,7 +44,7 @@ impl TextKind {
     }
 }
 
-// How two operands become one text.
+// How two operands become one text: a rule that rows name, as an enum in the place of a function pointer.
 #[derive(Clone, Copy)]
 pub enum TextRule {
     // both, tested against the limit

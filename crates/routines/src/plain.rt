@@ -15,6 +15,8 @@ use text::Span;
 use value::{Range, Value};
 use whole::{Arithmetic, compute};
 
+// The calls on ints, floats and truth values stay three: each has its own operation, and one of them can fail; one function over
+// these would take both operands and the operation, and be no plainer.
 pub(crate) fn call_ints(f: Arithmetic, a: Operand, b: Operand) -> Result<Made, Fault>
     ensures { Plainly (builtin.Int f) a.entry b.entry result }
 {

@@ -3,7 +3,8 @@ ghost use Rattle.std.specs.Prelude.{◌≤◌, length};
 
 use crate::made::Limits;
 
-// The work buffer, whose first `fill` bytes have texts; a new text goes behind them, within the limits.
+// The work buffer, whose first `fill` bytes have texts; a new text goes behind them, within the limits. What is asked of an operand
+// beside it stays a clause of each call: it speaks of bytes that the same call writes.
 #[derive(Drop)]
 pub struct Work<'a> {
     pub limits: Limits,

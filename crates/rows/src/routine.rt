@@ -1,4 +1,4 @@
-// The routines that rows name: enums in the place of rhai's function pointers, which is a rule of this port.
+// The routines that rows name: enums in the place of rhai's function pointers, which no function may hand out.
 ghost use Rattle.std.specs.Prelude.{◌≡◌, Option};
 ghost use Rattle.value.specs.declared.kind.Kind.{Kind};
 ghost use Rattle.value.specs.declared.op.Op.{Op};

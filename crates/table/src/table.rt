@@ -1,4 +1,5 @@
-// Lent records, and lent bytes for their texts: that of slot k begins at byte k times the capacity.
+// Lent records, and lent bytes for their texts: that of slot k begins at byte k times the capacity. The caller lends both, so that a
+// shelf takes no memory of its own.
 ghost use Rattle.std.specs.Prelude.{◌≡◌, true};
 ghost use Rattle.table.specs.Rows.{whole};
 

@@ -32,6 +32,7 @@ pub const KINDS: [Kind; 9] = [
     Kind::Incl,
 ];
 
+// The same two impls as an operator has: std's traits ask for them of each type.
 impl From<Kind> for u8 {
     ghost from_gives = { λ k n. n ≡ kind_number k };
 

@@ -6,6 +6,7 @@ use crate::arithmetic::*;
 use crate::shifts::*;
 use fault::Fault;
 
+// An enum in the place of function pointers, which no function may hand out.
 #[derive(Clone, Copy, PartialEq, Eq, Debug)]
 pub enum Arithmetic {
     Add,
