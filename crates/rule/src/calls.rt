@@ -1,5 +1,5 @@
 // The calls on a rule.
-ghost use Rattle.std.specs.Prelude.{◌≡◌};
+ghost use Rattle.std.specs.Prelude.{◌≡◌, ◌≤◌, length};
 ghost use Rattle.shelf.specs.Slots.{holding};
 ghost use Rattle.rule.specs.Run.{Ends};
 ghost use Rattle.rule.specs.Rules.{blank, rule_of, adds, added, checks, passed, ran};
@@ -11,7 +11,7 @@ use arrayvec::ArrayVec;
 use fault::{Fault, Refusal};
 use routines::Limits;
 use shelf::Shelf;
-use steps::Step;
+use steps::{Step, Taken};
 use text::Span;
 use value::{KindSet, Value};
 
@@ -44,14 +44,23 @@ impl Rule {
         }
     }
 
+    fn taken(&self) -> Taken<'_>
+        ensures list { result.list.now ≡ self.now.steps.items }
+        ensures few { length result.list.now ≤ 128 }
+    {
+        Taken {
+            list: self.steps.as_slice(),
+        }
+    }
+
     // The kinds that the answer can have.
     pub fn check<S: Shelf>(&mut self, shelf: &S) -> Result<KindSet, Refusal>
         ensures answer { result ≡ checks (holding (S.slots shelf.now)) (rule_of self.old) }
         ensures after { rule_of self.new ≡ passed (holding (S.slots shelf.now)) (rule_of self.old) }
     {
-        let steps = self.steps.as_slice();
+        let steps = self.taken();
         let answer = check_steps(steps, shelf)?;
-        let kinds = kinds_at(steps, shelf);
+        let kinds = kinds_at(steps.list, shelf);
         self.state = State::Passed { kinds, answer };
         Ok(answer)
     }
@@ -68,8 +77,8 @@ impl Rule {
         match &self.state {
             State::Open => Err(Fault::NotPassed.into()),
             State::Passed { kinds, .. } => {
-                let steps = self.steps.as_slice();
-                if !is_fresh(steps, kinds.as_slice(), shelf) {
+                let steps = self.taken();
+                if !is_fresh(steps.list, kinds.as_slice(), shelf) {
                     return Err(Fault::Outdated.into());
                 }
                 run_steps(steps, shelf, limits, work)

@@ -1,7 +1,6 @@
 // A check: the walk over sets of kinds, and the kinds at the loads.
-ghost use Rattle.std.specs.Prelude.{◌≡◌, ◌≤◌, true, length};
+ghost use Rattle.std.specs.Prelude.{◌≡◌, ◌≤◌, length};
 ghost use Rattle.shelf.specs.Slots.{holding};
-ghost use Rattle.steps.specs.Steps.{all_taken};
 ghost use Rattle.rule.specs.Check.{sets, checked, kind_at, kinds_at, fresh};
 
 use crate::sets::select_sets;
@@ -9,7 +8,7 @@ use arrayvec::ArrayVec;
 use fault::{Fault, Refusal};
 use operators::{FnAssign, FnBuiltin};
 use shelf::Shelf;
-use steps::{Machine, Step, walk};
+use steps::{Machine, Step, Taken, walk};
 use text::Span;
 use value::{Kind, KindSet, Op, Value};
 
@@ -64,9 +63,8 @@ impl<S: Shelf> Machine for Sets<'_, S> {
 }
 
 // CHECK's answer: the set of kinds that the last value can have.
-pub(crate) fn check_steps<S: Shelf>(steps: &[Step], shelf: &S) -> Result<KindSet, Refusal>
-    requires { all_taken steps.now ≡ true }
-    ensures { result ≡ checked (holding (S.slots shelf.now)) steps.now }
+pub(crate) fn check_steps<S: Shelf>(steps: Taken, shelf: &S) -> Result<KindSet, Refusal>
+    ensures { result ≡ checked (holding (S.slots shelf.now)) steps.entry.list.now }
 {
     walk(steps, &mut Sets { shelf })
 }

@@ -1,7 +1,6 @@
 // A run: the walk over values, whose texts are in the work buffer.
-ghost use Rattle.std.specs.Prelude.{◌≡◌, ◌≤◌, true, length};
+ghost use Rattle.std.specs.Prelude.{◌≡◌, ◌≤◌, length};
 ghost use Rattle.shelf.specs.Slots.{holding};
-ghost use Rattle.steps.specs.Steps.{all_taken};
 ghost use Rattle.routines.specs.Works.{Kept};
 ghost use Rattle.operators.specs.Rooms.{room, Gives};
 ghost use Rattle.value.specs.Values.{meant};
@@ -15,7 +14,7 @@ use fault::{Fault, Refusal};
 use operators::{FnBuiltin, Work, apply_held, assign_held};
 use routines::Limits;
 use shelf::Shelf;
-use steps::{Machine, Step, walk};
+use steps::{Machine, Taken, walk};
 use text::Span;
 use value::{Op, Value};
 
@@ -99,13 +98,12 @@ impl<S: Shelf> Machine for Values<'_, '_, '_, S> {
 
 // The walk behind the texts of the work buffer.
 fn walk_behind<S: Shelf>(
-    steps: &[Step],
+    steps: Taken,
     shelf: &mut S,
     work: &mut Work,
 ) -> Result<Value<Span>, Refusal>
-    requires taken { all_taken steps.now ≡ true }
-    requires short { length work.old.bytes.now ≤ 65536 }
-    ensures comes { Comes (meant work.new.bytes.now) (Held work.new.bytes.now work.new.fill) (room work.new.fill work.new.bytes.now) (stepped (values work.old.limits (holding (S.slots shelf.old))) steps.now (room work.old.fill work.old.bytes.now)) result }
+    requires { length work.old.bytes.now ≤ 65536 }
+    ensures comes { Comes (meant work.new.bytes.now) (Held work.new.bytes.now work.new.fill) (room work.new.fill work.new.bytes.now) (stepped (values work.old.limits (holding (S.slots shelf.old))) steps.entry.list.now (room work.old.fill work.old.bytes.now)) result }
     ensures later { Later (S.slots shelf.old) work.old (S.slots shelf.new) work.new }
     ensures kept { Kept work.old work.new }
 {
@@ -115,14 +113,13 @@ fn walk_behind<S: Shelf>(
 
 // The walk in a work buffer of at most 65,536 bytes.
 fn walk_steps<S: Shelf>(
-    steps: &[Step],
+    steps: Taken,
     shelf: &mut S,
     limits: Limits,
     bytes: &mut [u8],
 ) -> Result<Value<Span>, Refusal>
-    requires taken { all_taken steps.now ≡ true }
-    requires short { length bytes.old ≤ 65536 }
-    ensures walks { Walks limits (holding (S.slots shelf.old)) steps.now bytes.old result bytes.new }
+    requires { length bytes.old ≤ 65536 }
+    ensures walks { Walks limits (holding (S.slots shelf.old)) steps.entry.list.now bytes.old result bytes.new }
     ensures same { S.slots shelf.new ≡ S.slots shelf.old }
 {
     let mut work = Work {
@@ -135,13 +132,12 @@ fn walk_steps<S: Shelf>(
 
 // The walk in the first 65,536 bytes of a work buffer.
 pub(crate) fn run_steps<S: Shelf>(
-    steps: &[Step],
+    steps: Taken,
     shelf: &mut S,
     limits: Limits,
     work: &mut [u8],
 ) -> Result<Value<Span>, Refusal>
-    requires { all_taken steps.now ≡ true }
-    ensures ends { Ends (walked limits (holding (S.slots shelf.old)) steps.now work.old) result work.new }
+    ensures ends { Ends (walked limits (holding (S.slots shelf.old)) steps.entry.list.now work.old) result work.new }
     ensures same { S.slots shelf.new ≡ S.slots shelf.old }
 {
     let room = work.len().min(MOST);

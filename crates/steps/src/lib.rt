@@ -5,9 +5,11 @@ pub mod frame;
 pub mod frames;
 pub mod machine;
 pub mod step;
+pub mod taken;
 pub mod walking;
 
 pub use frame::Frame;
 pub use machine::Machine;
 pub use step::Step;
+pub use taken::Taken;
 pub use walking::walk;

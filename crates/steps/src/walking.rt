@@ -1,8 +1,8 @@
 // The walk over the steps of a rule, the same for every machine.
-ghost use Rattle.std.specs.Prelude.{◌≡◌, true, Ok};
+ghost use Rattle.std.specs.Prelude.{◌≡◌, Ok};
 ghost use Rattle.std.specs.Mem.{FitsInMemory};
 ghost use Rattle.steps.specs.contracts.frame.Frame.{the_row};
-ghost use Rattle.steps.specs.Steps.{takes, all_taken};
+ghost use Rattle.steps.specs.Steps.{takes};
 ghost use Rattle.steps.specs.Walk.{step as stepped, walk as walked};
 ghost use Rattle.steps.specs.Frames.{held};
 ghost use Rattle.steps.specs.Machines.{meanings, AllHeld, Comes, Advances};
@@ -10,6 +10,7 @@ ghost use Rattle.steps.specs.Machines.{meanings, AllHeld, Comes, Advances};
 use crate::frame::Frame;
 use crate::machine::Machine;
 use crate::step::Step;
+use crate::taken::Taken;
 use fault::{Fault, Refusal, placed};
 use value::Value;
 
@@ -47,15 +48,14 @@ fn advance<M: Machine>(
 }
 
 // The one entry that is left at the end, or the first refusal with the place of its step.
-pub fn walk<M: Machine>(steps: &[Step], machine: &mut M) -> Result<M::Entry, Refusal>
-    requires taken { all_taken steps.now ≡ true }
-    requires fits { FitsInMemory (the_row M.Entry.row) }
-    ensures comes { Comes (M.means machine.new) (M.holds machine.new) (M.world machine.new) (walked (M.does machine.old) steps.now (M.world machine.old)) result }
+pub fn walk<M: Machine>(steps: Taken, machine: &mut M) -> Result<M::Entry, Refusal>
+    requires { FitsInMemory (the_row M.Entry.row) }
+    ensures comes { Comes (M.means machine.new) (M.holds machine.new) (M.world machine.new) (walked (M.does machine.old) steps.entry.list.now (M.world machine.old)) result }
     ensures later { M.later machine.old machine.new }
 {
     let mut frame = Frame::new(machine.put(Value::Unit));
-    for (place, step) in steps.iter().enumerate() {
+    for (place, step) in steps.list.iter().enumerate() {
         placed(advance(*step, &mut frame, machine), place)?;
     }
-    frame.only(steps.len())
+    frame.only(steps.list.len())
 }

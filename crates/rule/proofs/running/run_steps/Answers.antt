@@ -6,6 +6,6 @@ use Rattle.rule.proofs.running.run_steps.Goals as goal
 
 pub returns : goal.returns
 returns g c = record {
-  ends = walks_end c.args.limits (holding (g.S.Shelf.slots c.args.shelf.now)) c.args.steps.now c.args.work.now (c.min-room.result - 0) c.walk_steps.result _ (sub-zero c.min-room.result ∙ c.min-room.ensures) c.walk_steps.ensures.walks;
+  ends = walks_end c.args.limits (holding (g.S.Shelf.slots c.args.shelf.now)) c.args.steps.list.now c.args.work.now (c.min-room.result - 0) c.walk_steps.result _ (sub-zero c.min-room.result ∙ c.min-room.ensures) c.walk_steps.ensures.walks;
   same = c.walk_steps.ensures.same;
 }

@@ -6,6 +6,6 @@ abbrev pub invariant-loop-place : goal.invariant-loop-place
 invariant-loop-place g l =
     let k = g.M.Machine in
     record {
-      far : Far (k.does l.initial.machine) l.steps (k.world l.initial.machine) (k.means l.machine) (k.holds l.machine) (k.world l.machine) l.place (held l.frame);
+      far : Far (k.does l.initial.machine) l.steps.list.now (k.world l.initial.machine) (k.means l.machine) (k.holds l.machine) (k.world l.machine) l.place (held l.frame);
       later : k.later l.initial.machine l.machine;
     }
