@@ -4,10 +4,10 @@ ghost use Rattle.shelf.specs.Slots.{holding};
 ghost use Rattle.rule.specs.Run.{Ends};
 ghost use Rattle.rule.specs.Rules.{blank, rule_of, adds, added, checks, passed, ran};
 
-use arrayvec::ArrayVec;
 use crate::checking::{check_steps, is_fresh, kinds_at};
 use crate::rule::{Rule, State};
 use crate::running::run_steps;
+use arrayvec::ArrayVec;
 use fault::{Fault, Refusal};
 use routines::Limits;
 use shelf::Shelf;

@@ -92,12 +92,7 @@ impl<S: Shelf> Machine for Values<'_, '_, '_, S> {
         apply_held::<FnBuiltin>(op, left, right, self.work)
     }
 
-    fn assign(
-        &mut self,
-        op: Op,
-        local: &mut Value<Span>,
-        right: Value<Span>,
-    ) -> Result<(), Fault> {
+    fn assign(&mut self, op: Op, local: &mut Value<Span>, right: Value<Span>) -> Result<(), Fault> {
         assign_held(op, local, right, self.work)
     }
 }

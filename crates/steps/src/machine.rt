@@ -42,24 +42,14 @@ pub trait Machine {
         ensures comes { Comes (means self.new) (holds self.new) (world self.new) ((does self.old).load slot (world self.old)) result }
         ensures later { later self.old self.new };
 
-    fn apply(
-        &mut self,
-        op: Op,
-        left: Self::Entry,
-        right: Self::Entry,
-    ) -> Result<Self::Entry, Fault>
+    fn apply(&mut self, op: Op, left: Self::Entry, right: Self::Entry) -> Result<Self::Entry, Fault>
         requires left { holds self.old left }
         requires right { holds self.old right }
         ensures comes { Comes (means self.new) (holds self.new) (world self.new) ((does self.old).apply op (means self.old left) (means self.old right) (world self.old)) result }
         ensures later { later self.old self.new };
 
     // Assigns to the local in place.
-    fn assign(
-        &mut self,
-        op: Op,
-        local: &mut Self::Entry,
-        right: Self::Entry,
-    ) -> Result<(), Fault>
+    fn assign(&mut self, op: Op, local: &mut Self::Entry, right: Self::Entry) -> Result<(), Fault>
         requires left { holds self.old local.old }
         requires right { holds self.old right }
         ensures comes { Comes (means self.new) (holds self.new) (world self.new) ((does self.old).assign op (means self.old local.old) (means self.old right) (world self.old)) (bind result (λ _. Ok local.new)) }
