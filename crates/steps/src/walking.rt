@@ -46,7 +46,8 @@ fn advance<M: Machine>(
     }
 }
 
-// The one entry that is left at the end, or the first refusal with the place of its step.
+// The one entry that is left at the end, or the first refusal with the place of its step. `fits` holds wherever the size of an
+// entry is known.
 pub fn walk<M: Machine>(steps: &[Step], machine: &mut M) -> Result<M::Entry, Refusal>
     requires taken { all_taken steps.now ≡ true }
     requires fits { FitsInMemory (the_row M.Entry.row) }
