@@ -1,5 +1,4 @@
 mod Gathers
 mod Fresh
-mod Outcomes
 mod Loads
 mod Parts

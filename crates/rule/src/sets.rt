@@ -2,8 +2,8 @@
 ghost use Rattle.std.specs.Prelude.{◌≡◌, Result};
 ghost use Rattle.fault.specs.declared.Fault.{Fault as Reason};
 ghost use Rattle.value.specs.Kinds.{set, kinds};
-ghost use Rattle.value.specs.declared.kind.Kind.{Kind as One};
-ghost use Rattle.value.specs.declared.set.KindSet.{KindSet as Some};
+ghost use Rattle.value.specs.declared.kind.Kind.{Kind as OneKind};
+ghost use Rattle.value.specs.declared.set.KindSet.{KindSet as Kinds};
 ghost use Rattle.rows.specs.Rows.{selected_by};
 ghost use Rattle.rule.specs.Sets.{gather, rows_over};
 
@@ -15,7 +15,7 @@ use value::{Kind, KindSet, Op};
 // The union of what `f` gives for each kind of the set, or its first refusal.
 fn gather<F: Fn(Kind) -> Result<KindSet, Fault>>(of: KindSet, f: F) -> Result<KindSet, Fault>
     requires { F.IsAlwaysCallable f }
-    ensures { (gives : One → Result Some Reason) → ((k : One) (r : Result Some Reason) → F.post f k r → r ≡ gives k) → result ≡ gather gives of (set 0) kinds }
+    ensures { (gives : OneKind → Result Kinds Reason) → ((k : OneKind) (r : Result Kinds Reason) → F.post f k r → r ≡ gives k) → result ≡ gather gives of (set 0) kinds }
 {
     let mut all = KindSet::default();
     for kind in KINDS {

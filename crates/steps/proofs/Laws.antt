@@ -1,13 +1,11 @@
--- The laws of a walk, for the walks of CHECK and RUN: what a step comes to once its operands are off the stack, and one turn of
--- a loop over the steps.
+-- The laws of a walk: what a step comes to once its operands are off the stack, and one turn of a loop over the steps.
 use Rattle.std.proofs.Common.{◌≡◌, ℕ, zero, suc, ◌+◌, ◌<◌, ◌≤◌, Bool, true, false, ltb, List, [], ◌∷◌, length, get_or, drop, is_ok, Ok, Err, Result, refl, ap, ◌∙◌, arith, ltb-true}
-use Rattle.std.proofs.lemmas.List.{get_or_default, drop_more, drop_all}
+use Rattle.std.proofs.lemmas.List.{drop_more, drop_all}
 use Rattle.std.proofs.lemmas.Bool.{and_parts}
 use Rattle.fault.specs.Refusals.{refusal, placed_at, bind, unless}
 use Rattle.fault.specs.declared.Fault.{Fault}
 use Rattle.fault.specs.declared.Fault.TheVariants.{Unknown}
 use Rattle.fault.specs.declared.Refusal.{Refusal}
-use Rattle.value.specs.Values.{unit}
 use Rattle.value.specs.declared.op.Op.{Op}
 use Rattle.steps.specs.Steps.{takes_local, takes, all_taken}
 use Rattle.steps.specs.Frames.{done}
@@ -37,9 +35,6 @@ pub popped_locals : {T : Type 0} (e : Entries T) (x : T) (e₁ : Entries T) → 
 popped_locals e x e₁ h = off_locals e.stack e.locals x e₁ h
 
 module _ {W T : Type 0} (m : Machine W T) (e : Entries T) (w : W) where
-  pub local_read : (i : ℕ) (d : T) → length e.locals ≡ 8 → takes_local i ≡ Ok tt → local m i e ≡ get_or e.locals i d
-  local_read i d l t = get_or_default e.locals i (m.put unit) d (omega (arith, local_below i t))
-
   pub load_step : (i : ℕ) (x : T) → local m i e ≡ x → step m (Local i) e w ≡ beside w (pushed x e)
   load_step i x q = ap (λ y. beside w (pushed y e)) q
 

@@ -1,4 +1,4 @@
-pub mod Laws
+mod Laws
 mod Framed
 mod Advancing
 mod Looping

@@ -47,7 +47,8 @@ fn advance<M: Machine>(
     }
 }
 
-// The one entry that is left at the end, or the first refusal with the place of its step.
+// The one entry that is left at the end, or the first refusal with the place of its step. What it requires holds wherever the size
+// of an entry is known.
 pub fn walk<M: Machine>(steps: Taken, machine: &mut M) -> Result<M::Entry, Refusal>
     requires { FitsInMemory (the_row M.Entry.row) }
     ensures comes { Comes (M.means machine.new) (M.holds machine.new) (M.world machine.new) (walked (M.does machine.old) steps.entry.list.now (M.world machine.old)) result }
