@@ -25,6 +25,11 @@ pub enum Step {
 
 // The unit as a literal, in the unused places of a rule.
 impl Default for Step {
+    ghost use Rattle.value.specs.declared.value.Value.TheVariants.{Unit as Nothing};
+    ghost use Rattle.steps.specs.declared.step.Step.TheVariants.{Put};
+
+    ghost is_default = { λ s. s ≡ Put Nothing };
+
     fn default() -> Step {
         Step::Put(Value::Unit)
     }
