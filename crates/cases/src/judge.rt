@@ -2,7 +2,7 @@
 use crate::case::{Case, Form, read_case};
 use fault::Fault;
 use format::hexadecimal::read_bits;
-use format::names::{assign_named, first_named, kind_named, op_named};
+use format::names::{assign_named, kind_named, op_named};
 use format::numbers::read_int;
 use format::values::read_value;
 use input::Answerer;
@@ -28,7 +28,9 @@ pub struct Judge {
 fn read_op(form: Form, name: &[u8]) -> Result<Op, Fault> {
     let op = match form {
         Form::Apply => op_named(name),
-        Form::Assign => assign_named(name).or_else(|| first_named(name, &OPS[11..])),
+        Form::Assign => assign_named(name).or_else(|| op_named(name).filter(|op| OPS[11..].contains(
+            op,
+        ))),
     };
     op.ok_or(Fault::Unknown)
 }
