@@ -4,7 +4,7 @@ use fault::Fault;
 use format::hexadecimal::read_bits;
 use format::names::{assign_named, kind_named, op_named};
 use format::numbers::read_int;
-use format::values::read_value;
+use format::values::{read_float, read_value};
 use input::Answerer;
 use operators::{FnAssign, FnBuiltin, apply};
 use routines::{Limits, Made};
@@ -43,7 +43,7 @@ fn read_limit(bytes: &[u8]) -> Result<usize, Fault> {
 
 // Whether a float is written that is no number.
 fn is_nan(bytes: &[u8]) -> bool {
-    read_bits(bytes).is_some_and(|bits| bits % 0x8000_0000_0000_0000 > 0x7ff0_0000_0000_0000)
+    read_bits(bytes).is_some() && read_float(bytes).is_none()
 }
 
 // A value with its text in the buffer; here a NaN is read too.
@@ -59,8 +59,8 @@ fn read_operand<'a>(
     Ok(lend(value, buffer))
 }
 
-// The value that a case gives, with its text in one of the buffers. (No method: a call of one with a value that borrows a part of
-// `self` and of its other parts gets no proof.)
+// The value that a case gives, with its text in one of the buffers. (As a method of Judge this gets no proof: its value would
+// borrow one part of `self` while another is written.)
 fn give<'a>(
     case: Case,
     left: &'a mut [u8],

@@ -32,7 +32,7 @@ pub enum Call<'a> {
 #[derive(Clone, Copy)]
 pub enum Reply {
     Done,
-    // with its text, if it has one, in the work buffer
+    // with its text, if it has one, in the work buffer; that it lies there stays a clause, since a reply does not hold the buffer
     Value(Value<Span>),
     Number(usize),
     Kind(Kind),

@@ -8,7 +8,7 @@ ghost use Rattle.float.specs.Exchange.{floats_exchange};
 
 use order::{Comparing, Order};
 
-// By IEEE 754's two tests; the library's `partial_cmp` gives an Option, which would have to be taken apart again.
+// By IEEE 754's two tests, Equal where neither holds; the library's `partial_cmp` gives None beside a NaN.
 fn ieee(x: f64, y: f64) -> Order
     ensures { result ≡ by_ieee x y }
 {

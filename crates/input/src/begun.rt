@@ -6,7 +6,8 @@ use crate::reading::Answerer;
 use std::io::Write;
 use std::{io, mem};
 
-// What has come of it: so many bytes, at the front of the buffer, or more than the buffer holds.
+// What has come of it: so many bytes, at the front of the buffer, or None where it is more than the buffer holds. The buffer is
+// lent, so that lines take no memory.
 #[derive(Drop)]
 pub struct Line<'a> {
     pub buffer: &'a mut [u8],

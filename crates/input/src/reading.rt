@@ -58,7 +58,7 @@ impl Line<'_> {
     }
 }
 
-// Answers every line of the input, in as many reads as it takes; the buffer bounds the length of a line. What is answered is written before the next read, so
+// Answers every line of the input; the buffer bounds the length of a line. What is answered is written before the next read, so
 // that a person sees it at once.
 pub fn serve<R: Read, A: Answerer, W: Write>(
     input: &mut R,
@@ -68,6 +68,7 @@ pub fn serve<R: Read, A: Answerer, W: Write>(
     out: &mut W,
 ) -> io::Result<()> {
     let mut line = Line::new(buffer);
+    // a count that no input reaches, since every loop has to have an end
     for _ in 0..u64::MAX {
         let n = input.read(chunk)?;
         if n == 0 {

@@ -47,7 +47,7 @@ impl<P: Shelf, Q: Shelf> Joined<P, Q> {
     }
 }
 
-// The questions are alike, and stay: each is asked of either shelf by another method of theirs.
+// The questions are alike, and stay: one function of them would take a closure for each of the shelves, and be no plainer.
 impl<P: Shelf, Q: Shelf> Shelf for Joined<P, Q> {
     ghost slots = { λ s. joined (P.Shelf.slots s.first) (Q.Shelf.slots s.second) };
 
@@ -92,6 +92,7 @@ impl<P: Shelf, Q: Shelf> Shelf for Joined<P, Q> {
         match self.side(slot) {
             Ok(Side::First(k)) => self.first.post(k, value),
             Ok(Side::Second(k)) => self.second.post(k, value),
+            // the shelf that has the slot tests the value; here, where none has, it is tested first
             Err(fault) if is_well_formed(value) => Err(fault),
             Err(_) => Err(Fault::Malformed),
         }

@@ -23,7 +23,7 @@ fn as_number(answer: Result<KindSet, Fault>) -> i32
     }
 }
 
-// The same on numbers, of which each is tested.
+// SELECT on numbers, of which each is tested.
 fn try_select<R: Routine>(op: u8, left: u8, right: u8) -> Result<KindSet, Fault>
     ensures { result ≡ selected_by (rows.selected_by R.finds R.gives) op left right }
 {

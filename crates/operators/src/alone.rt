@@ -48,8 +48,8 @@ fn operate_in<R: Call>(
     operate::<R>(op, a, b, &mut work)
 }
 
-// Of the binary form where R is `FnBuiltin`. Where it is `FnAssign`, the left operand after the assignment, which is given back
-// where nothing was added to it.
+// APPLY where R is `FnBuiltin`. Where it is `FnAssign`, its assigning form: the left operand after the assignment, which is given
+// back where nothing was added to it.
 pub fn apply<R: Call>(
     op: Op,
     left: Value<&[u8]>,

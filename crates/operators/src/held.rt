@@ -1,4 +1,5 @@
-// Operators in a run, on values whose texts are in the work buffer.
+// Operators in a run, on values whose texts are in the work buffer. That the buffer is no longer than a text may be is asked here,
+// and is no invariant of it, since the routines take one of any length.
 ghost use Rattle.std.specs.Prelude.{◌≡◌, ℕ, ◌≤◌, List, length, Ok};
 ghost use Rattle.fault.specs.Refusals.{bind};
 ghost use Rattle.value.specs.Values.{meant};

@@ -4,6 +4,7 @@ ghost use Rattle.order.specs.Orders.{satisfies};
 
 use crate::traits::{Comparing, Order};
 
+// An enum in the place of function pointers, which no function may hand out.
 #[derive(Clone, Copy, PartialEq, Eq, Debug)]
 pub enum Comparison {
     Equals,

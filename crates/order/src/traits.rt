@@ -5,7 +5,7 @@ ghost use Rattle.order.specs.Orders.{exchanged, order_number, ordered};
 
 use std::cmp::Ordering;
 
-// Kept apart from Option<Ordering>: a program in C reads the four answers by their numbers.
+// No Option<Ordering>: the four answers have numbers of their own, which C reads, and a law over all four.
 #[derive(Clone, Copy, PartialEq, Eq, Debug)]
 pub enum Order {
     Less,

@@ -1,5 +1,5 @@
-// What a routine reads of an operand, each reading under rhai's own name, alike as some are. A kind that it is not for is refused as
-// one without a row is.
+// What a routine reads of an operand, each reading under rhai's own name, alike as some are. A kind that it is not for is refused
+// as one without a row is.
 ghost use Rattle.std.specs.Prelude.{◌≡◌, ℕ, List, pos, Ok};
 ghost use Rattle.fault.specs.Refusals.{bind};
 ghost use Rattle.text.specs.declared.piece.Text.{Text};

@@ -18,7 +18,8 @@ fn int_row(op: Op) -> Option<FnBuiltin>
         .or_else(|| choice::range(op).map(FnBuiltin::Range))
 }
 
-// The rows of two kinds each name their own routines; one function for two of them would take these as arguments, and be no plainer.
+// The rows of two kinds each name their own routines; one function for two of them would take these as arguments, and be no
+// plainer.
 fn float_row(op: Op) -> Option<FnBuiltin>
     ensures { result ≡ float_row op }
 {

@@ -7,7 +7,7 @@ use crate::routine::Routine;
 use fault::Fault;
 use value::{Kind, KindSet, Op};
 
-// Of the binary form where R is `FnBuiltin`, of the assigning form where it is `FnAssign`.
+// For the binary form of an operator where R is `FnBuiltin`, and for the assigning form where it is `FnAssign`.
 pub fn select<R: Routine>(op: Op, left: Kind, right: Kind) -> Result<KindSet, Fault>
     ensures { result ≡ selected_by R.finds R.gives op left right }
 {

@@ -7,7 +7,8 @@ use arrayvec::ArrayVec;
 use steps::Step;
 use value::{Kind, KindSet};
 
-// A passed rule keeps the kind of each slot that it loads, at the place of its step, and the kinds that its answer can have.
+// A passed rule keeps the kind of each slot that it loads, at the place of its step, and the kinds that its answer can have. It is
+// an enum, and no Option, since rules speak of open and passed ones; a check replaces all that is kept at once.
 #[derive(Drop)]
 pub enum State {
     Open,

@@ -72,10 +72,7 @@ impl<S: Shelf> Machine for Values<'_, '_, '_, S> {
     ghost keeps = { λ a b p. later_keeps (S.slots a.shelf.now) a.work.now (S.slots b.shelf.now) b.work.now p.2 };
 
     fn put(&self, literal: Value<Span>) -> Value<Span> {
-        match literal {
-            Value::Char(c) => Value::Char(c),
-            _ => literal,
-        }
+        literal
     }
 
     fn load(&mut self, slot: u32) -> Result<Value<Span>, Fault> {

@@ -7,5 +7,5 @@ use crate::step::Step;
 #[derive(Clone, Copy)]
 pub struct Taken<'a> {
     pub list: &'a [Step],
-    ghost taken: { all_taken list.now ≡ true },
+    pub ghost taken: { all_taken list.now ≡ true },
 }

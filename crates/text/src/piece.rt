@@ -14,6 +14,7 @@ pub enum Text<'a> {
     Lent(&'a [u8]),
 }
 
+// That a piece lies in the buffer stays a clause: a piece does not hold it, and the same call writes it.
 #[derive(Clone, Copy)]
 pub enum Piece<'a> {
     Whole(Text<'a>),

@@ -28,7 +28,8 @@ pub fn lend(value: Value<Span>, buffer: &[u8]) -> Value<&[u8]>
     value.map(|span| part(buffer, span))
 }
 
-// Puts the value into the buffer: its text at the place and no other byte.
+// Puts the value into the buffer: its text at the place and no other byte. (The span is made before the map: of a closure that
+// writes, a caller would not know what it wrote.)
 pub fn store(buffer: &mut [u8], place: usize, value: Value<&[u8]>) -> Result<Value<Span>, Fault>
     ensures answer { result ≡ (told_at buffer.old place (meaning (λ x. x.now) value.entry)).answer }
     ensures bytes { buffer.new ≡ (told_at buffer.old place (meaning (λ x. x.now) value.entry)).bytes }

@@ -1,4 +1,5 @@
-// Sums, products, quotients, powers and bits: exact, or refused. Each is a function of rhai's and keeps its name, alike as some are.
+// Sums, products, quotients, powers and bits: exact, or refused. Each is a function of rhai's and keeps its name, alike as some
+// are.
 ghost use Rattle.std.specs.Prelude.{◌≡◌, bit_and, bit_or, bit_xor};
 ghost use Rattle.whole.specs.Whole.{sum_of, difference_of, product_of, quotient_of, remainder_of, power_of, bits_by};
 
