@@ -12,7 +12,8 @@ import sys
 
 top = pathlib.Path(sys.argv[1] if len(sys.argv) > 1 else ".")
 files = sorted(top.glob("crates/*/src/*.rt"))
-lines = [(f.relative_to(top), n + 1, line) for f in files for n, line in enumerate(f.read_text().split("\n"))]
+lines = [(f.relative_to(top), n + 1, line)
+         for f in files for n, line in enumerate(f.read_text().split("\n")) if not line.lstrip().startswith("//")]
 
 
 def show(title, found):

@@ -2,3 +2,4 @@ mod Laws
 mod Framed
 mod Advancing
 mod Looping
+mod Stacks

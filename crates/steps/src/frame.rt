@@ -1,12 +1,14 @@
 // What a walk over steps works in, for entries of any type: values in a run, sets of kinds in a check.
-ghost use Rattle.std.specs.Prelude.{◌≡◌, length};
+ghost use Rattle.std.specs.Prelude.{◌≡◌, ◌≤◌, length};
 
-use arrayvec::ArrayVec;
-
+// An array with a count, and no array vector: that was tried, asks a default of every entry, and makes a run some 4 % slower.
 #[derive(Drop)]
 pub struct Frame<T> {
-    // the top last
-    pub stack: ArrayVec<T, 16>,
+    // the stack's entries are the first `count`, the top last
+    pub stack: [T; 16],
+    pub count: usize,
     pub locals: [T; 8],
+    ghost few: { count ≤ 16 },
+    ghost sixteen: { length stack ≡ 16 },
     ghost eight: { length locals ≡ 8 },
 }

@@ -12,7 +12,7 @@ use value::{Op, Value};
 
 pub trait Machine {
     // what stands on the stack and in the locals
-    type Entry: Copy + Default;
+    type Entry: Copy;
 
     // what calls change beside the entries, and what an entry means
     ghost World: { Type 0 };
