@@ -1,17 +1,10 @@
-// A rule of 21 steps over a table.
-use crate::NONE;
+// A rule of 21 steps over a table, run again and again.
+use crate::tasks::NONE;
 use rule::Rule;
 use shelf::Shelf;
 use steps::Step;
-use table::Table;
+use table::{Record, new_table};
 use value::{Op, Value};
-
-// A table and a rule that was checked over it.
-#[derive(Drop)]
-pub struct Bench<'a> {
-    table: Table<'a>,
-    rule: Rule,
-}
 
 // Slot 0 and the numbers from 0 to 9, added up.
 fn write_rule(rule: &mut Rule) {
@@ -22,20 +15,23 @@ fn write_rule(rule: &mut Rule) {
     }
 }
 
-impl<'a> Bench<'a> {
-    pub fn new(mut table: Table<'a>) -> Self {
-        let _ = table.post(0, Value::Int(25));
-        let mut rule = Rule::new();
-        write_rule(&mut rule);
-        let _ = rule.check(&table);
-        Bench { table, rule }
-    }
+fn margin<'a>() -> Value<&'a [u8]> {
+    Value::Int(25)
 }
 
-// What the rule gives, or nothing where it is refused.
-pub fn run_once(bench: &mut Bench, work: &mut [u8]) -> u64 {
-    match bench.rule.run(&mut bench.table, NONE, work) {
-        Ok(Value::Int(n)) => n.unsigned_abs(),
-        _ => 0,
+pub fn repeat(count: u32, work: &mut [u8]) -> u64 {
+    let mut records = [Record { value: Value::Unit }; 2];
+    let mut texts = [0u8; 32];
+    let mut table = new_table(&mut records, &mut texts, 16);
+    let _ = table.post(0, margin());
+    let mut rule = Rule::new();
+    write_rule(&mut rule);
+    let _ = rule.check(&table);
+    let mut sum = 0u64;
+    for _ in 0..count {
+        if let Ok(Value::Int(n)) = rule.run(&mut table, NONE, work) {
+            sum = sum.wrapping_add(n.unsigned_abs());
+        }
     }
+    sum
 }
