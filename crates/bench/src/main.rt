@@ -17,7 +17,7 @@ fn measure(rt: &HostRuntime, task: Task, count: u32) -> io::Result<()> {
     println!(rt; "{name}\t{nanos}\t{count}\t{sum}")
 }
 
-// The same for a rule, apart: as closures of one function they would measure what the operators do not take.
+// The same for a rule, apart: one function that took the turn as a closure would measure the closure too.
 fn measure_rule(rt: &HostRuntime, count: u32) -> io::Result<()> {
     let start = Instant::now(rt)?;
     let sum = rules::repeat(count, &mut [0u8; 64]);

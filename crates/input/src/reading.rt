@@ -46,7 +46,8 @@ impl Line<'_> {
         answerer: &mut A,
         out: &mut W,
     ) -> io::Result<()>
-        ensures { OnOk result (Fed A.answers (length self.old.buffer.now) answerer.old (begun self.old.buffer.now self.old.len) chunk.now answerer.new (begun self.new.buffer.now self.new.len)) }
+        ensures fed { OnOk result (Fed A.answers (length self.old.buffer.now) answerer.old (begun self.old.buffer.now self.old.len) chunk.now answerer.new (begun self.new.buffer.now self.new.len)) }
+        ensures room { length self.new.buffer.now ≡ length self.old.buffer.now }
     {
         let mut cut = cut_at(chunk, b'\n');
         while let Some(rest) = cut.rest {

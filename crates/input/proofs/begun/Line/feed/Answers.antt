@@ -23,8 +23,8 @@ loop-cut-preserved g c =
           (one_less g.A.Answerer.answers room c.loop-cut.answerer line part c.args.answerer.now first _ _ c.in-Some.rest.now left (rw (← inv.room) c.hand_on.ensures.answers));
     }
 
-pub returns : goal.returns
-returns g c =
+pub returns-clause-fed : goal.returns-clause-fed
+returns-clause-fed g c =
     let inv = c.loop-cut.invariant in
     let room = length c.args.self.now.buffer.now in
     let line = begun c.loop-cut.self.buffer.now c.loop-cut.self.len in
