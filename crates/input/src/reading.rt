@@ -7,7 +7,7 @@ use format::cuts::cut_at;
 use std::io;
 use std::io::{Read, Write};
 
-// Who answers lines.
+// Who answers lines. Who answers and where it is written stay two parameters: any answerer writes to any writer.
 pub trait Answerer {
     // what answering a line makes of it; None is a line that is too long to be kept
     ghost answers: { Self → Option (List ℕ) → Self → Type 0 };
