@@ -12,16 +12,14 @@ use show::Shown;
 use std::io;
 use std::io::Write;
 use value::op::OPS;
-use value::{Kind, Op, Value, lend};
-
-const MOST: usize = 65536;
+use value::{Kind, MOST_BYTES, Op, Value, lend};
 
 // Three buffers of fixed size, so that a case takes no memory.
 #[derive(Drop)]
 pub struct Judge {
-    left: [u8; MOST],
-    right: [u8; MOST],
-    work: [u8; MOST],
+    left: [u8; MOST_BYTES],
+    right: [u8; MOST_BYTES],
+    work: [u8; MOST_BYTES],
 }
 
 // An operator: one that assigns is written with = behind; one that does not has no row there.
@@ -90,9 +88,9 @@ fn give<'a>(
 impl Judge {
     pub fn new() -> Self {
         Judge {
-            left: [0; MOST],
-            right: [0; MOST],
-            work: [0; MOST],
+            left: [0; MOST_BYTES],
+            right: [0; MOST_BYTES],
+            work: [0; MOST_BYTES],
         }
     }
 }

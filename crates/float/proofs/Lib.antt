@@ -1,5 +1,6 @@
 mod Exact
 mod Literals
+mod Magnitudes
 mod Agree
 mod Patterned
 mod Remaining

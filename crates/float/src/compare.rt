@@ -1,6 +1,5 @@
 // Comparing floats: two that are closer than rounding can tell are equal.
 ghost use Rattle.std.specs.Prelude.{◌≡◌};
-ghost use Rattle.std.specs.Float.{float_max};
 ghost use Rattle.float.specs.Tolerance.{by_float, by_ieee, unscaled, divisor, close};
 ghost use Rattle.float.specs.Exactly.{Exact};
 ghost use Rattle.float.specs.Agreement.{Agrees};
@@ -33,16 +32,8 @@ fn find_divisor(x: f64, y: f64) -> f64
     if is_unscaled(x, y) {
         1.0
     } else {
-        larger(x.abs(), y.abs())
+        x.abs().max(y.abs())
     }
-}
-
-// The larger of two; of two equal ones the first, and beside a NaN the other. (Kept: the library's `max` leaves open which of two
-// equal ones it gives, and the divisor has to be one value.)
-fn larger(x: f64, y: f64) -> f64
-    ensures { result ≡ float_max x y }
-{
-    if y <= x || y.is_nan() { x } else { y }
 }
 
 fn are_close(x: f64, y: f64) -> bool

@@ -9,10 +9,7 @@ use crate::operate::operate;
 use fault::Fault;
 use routines::{Call, Limits, Made, Operand, Work};
 use text::Text;
-use value::{Op, Value, is_well_formed};
-
-// As much of a buffer is used as one text may have.
-const MOST: usize = 65536;
+use value::{MOST_BYTES, Op, Value, is_well_formed};
 
 // A value as an operand.
 fn as_operand<'a>(value: Value<&'a [u8]>) -> Operand<'a>
@@ -64,7 +61,8 @@ pub fn apply<R: Call>(
     if !are_well_formed(left, right) {
         return Err(Fault::Malformed);
     }
-    let room = buffer.len().min(MOST);
+    // as much of the buffer is used as one text may have
+    let room = buffer.len().min(MOST_BYTES);
     operate_in::<R>(
         op,
         as_operand(left),

@@ -44,7 +44,8 @@ impl TextKind {
     }
 }
 
-// How two operands become one text: a rule that rows name, as an enum in the place of a function pointer.
+// How two operands become one text: what a routine asks of `concat`, as an enum in the place of a function pointer, which no
+// function may hand out.
 #[derive(Clone, Copy)]
 pub enum TextRule {
     // both, tested against the limit

@@ -16,10 +16,7 @@ use routines::Limits;
 use shelf::Shelf;
 use steps::{Machine, Taken, walk};
 use text::Span;
-use value::{Op, Value};
-
-// As much of the work buffer is used as one text may have.
-const MOST: usize = 65536;
+use value::{MOST_BYTES, Op, Value};
 
 // The value of a slot, its text behind the others.
 fn load<S: Shelf>(slot: u32, shelf: &mut S, work: &mut Work) -> Result<Value<Span>, Fault>
@@ -127,7 +124,7 @@ fn walk_steps<S: Shelf>(
     walk_behind(steps, shelf, &mut work)
 }
 
-// The walk in the first 65,536 bytes of a work buffer.
+// The walk in the first 65,536 bytes of a work buffer, as many as one text may have.
 pub(crate) fn run_steps<S: Shelf>(
     steps: Taken,
     shelf: &mut S,
@@ -137,6 +134,6 @@ pub(crate) fn run_steps<S: Shelf>(
     ensures ends { Ends (walked limits (holding (S.slots shelf.old)) steps.entry.list.now work.old) result work.new }
     ensures same { S.slots shelf.new ≡ S.slots shelf.old }
 {
-    let room = work.len().min(MOST);
+    let room = work.len().min(MOST_BYTES);
     walk_steps(steps, shelf, limits, &mut work[0..room])
 }

@@ -10,5 +10,5 @@ pub mod value;
 pub use kind::Kind;
 pub use op::Op;
 pub use set::KindSet;
-pub use texts::{is_well_formed, lend, store};
+pub use texts::{MOST_BYTES, is_well_formed, lend, store};
 pub use value::{Range, Value};

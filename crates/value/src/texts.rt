@@ -7,15 +7,16 @@ use crate::value::Value;
 use fault::Fault;
 use text::{Span, Text, is_utf8, part, write_text};
 
-const MOST: usize = 65536;
+// The most bytes that a text has.
+pub const MOST_BYTES: usize = 65536;
 
 // A str is UTF-8, and no text is over 65,536 bytes.
 pub fn is_well_formed(value: Value<&[u8]>) -> bool
     ensures { result ≡ well_formed (meaning (λ x. x.now) value.entry) }
 {
     match value {
-        Value::Str(t) => is_utf8(t) && t.len() <= MOST,
-        Value::Blob(t) => t.len() <= MOST,
+        Value::Str(t) => is_utf8(t) && t.len() <= MOST_BYTES,
+        Value::Blob(t) => t.len() <= MOST_BYTES,
         _ => true,
     }
 }
