@@ -1,4 +1,6 @@
-// The routine of a binary operator for two kinds, in the order of rhai's `get_builtin_binary_op_fn`.
+// The routine of a binary operator for two kinds, in the order of rhai's `get_builtin_binary_op_fn`. What LLVM would leave a call is
+// marked to be inlined: the row that a call writes byte by byte is read at once as a whole, which waits for the writes (a tenth of an
+// operator's time).
 ghost use Rattle.std.specs.Prelude.{◌≡◌};
 ghost use Rattle.order.specs.declared.comparison.Comparison.TheVariants.{Equals, Differs};
 ghost use Rattle.rows.specs.Rows.{row_of, int_row, float_row, bool_row, text_row, blob_row, unit_row, range_row, unlike_row, differing_row};
@@ -9,6 +11,7 @@ use crate::routine::{FnBuiltin, RangeKind, Routine};
 use order::Comparison;
 use value::{Kind, KindSet, Op};
 
+#[inline(always)]
 fn int_row(op: Op) -> Option<FnBuiltin>
     ensures { result ≡ int_row op }
 {
@@ -45,6 +48,7 @@ fn text_row(op: Op) -> Option<FnBuiltin>
     }
 }
 
+#[inline(always)]
 fn blob_row(op: Op) -> Option<FnBuiltin>
     ensures { result ≡ blob_row op }
 {
@@ -56,6 +60,7 @@ fn blob_row(op: Op) -> Option<FnBuiltin>
 
 // Values that the kinds alone tell apart: one comparison always holds of them, and no other. Two units are equal, and values of
 // unequal kinds differ.
+#[inline(always)]
 fn constant_row(op: Op, always: Comparison) -> Option<FnBuiltin>
     ensures equal { always ≡ Equals → result ≡ unit_row op }
     ensures differing { always ≡ Differs → result ≡ differing_row op }

@@ -8,6 +8,7 @@ use order::Comparison;
 use value::Op;
 use whole::Arithmetic;
 
+#[inline(always)]
 pub(crate) fn arithmetic(op: Op) -> Option<Arithmetic>
     ensures { result ≡ arithmetic_of op }
 {
@@ -51,6 +52,7 @@ pub(crate) fn logic(op: Op) -> Option<Logic>
     }
 }
 
+#[inline(always)]
 pub(crate) fn comparison(op: Op) -> Option<Comparison>
     ensures { result ≡ comparison_of op }
 {
