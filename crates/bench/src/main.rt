@@ -9,20 +9,19 @@ use std::time::Instant;
 use std::{env, io};
 use tasks::Task;
 
-fn measure(rt: &HostRuntime, task: Task, count: u32) -> io::Result<()> {
+// Times so many turns, which give a sum of what they came to.
+fn measure<F: FnOnce(u32) -> u64>(
+    rt: &HostRuntime,
+    name: &str,
+    count: u32,
+    turns: F,
+) -> io::Result<()>
+    requires { F.pre turns count }
+{
     let start = Instant::now(rt)?;
-    let sum = tasks::repeat(task, count, &mut [0u8; 64]);
+    let sum = turns(count);
     let nanos = start.elapsed(rt)?.as_nanos();
-    let name = tasks::name(task);
     println!(rt; "{name}\t{nanos}\t{count}\t{sum}")
-}
-
-// The same for a rule, apart: one function that took the turn as a closure would measure the closure too.
-fn measure_rule(rt: &HostRuntime, count: u32) -> io::Result<()> {
-    let start = Instant::now(rt)?;
-    let sum = rules::repeat(count, &mut [0u8; 64]);
-    let nanos = start.elapsed(rt)?.as_nanos();
-    println!(rt; "run of 21 steps\t{nanos}\t{count}\t{sum}")
 }
 
 fn main(rt: HostRuntime) -> io::Result<()> {
@@ -38,7 +37,17 @@ fn main(rt: HostRuntime) -> io::Result<()> {
         Task::EqualFloats,
         Task::AddStrs,
     ] {
-        measure(&rt, task, count)?;
+        measure(
+            &rt,
+            tasks::name(task),
+            count,
+            |n| tasks::repeat(task, n, &mut [0u8; 64]),
+        )?;
     }
-    measure_rule(&rt, count)
+    measure(
+        &rt,
+        "run of 21 steps",
+        count,
+        |n| rules::repeat(n, &mut [0u8; 64]),
+    )
 }

@@ -5,7 +5,8 @@ ghost use Rattle.cases.specs.Cases.{spelled, form_named, case_of};
 
 use format::cuts::cut_at;
 
-// Whether an operator gives a value or assigns to its left operand; a line says which.
+// Whether an operator gives a value or assigns to its left operand. (A line says which, so that a type parameter in its place would
+// need the same match where the line is read.)
 #[derive(Clone, Copy)]
 pub enum Form {
     Apply,

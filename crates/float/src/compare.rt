@@ -7,17 +7,11 @@ ghost use Rattle.float.specs.Exchange.{floats_exchange};
 
 use order::{Comparing, Order};
 
-// By IEEE 754's two tests, Equal where neither holds; the library's `partial_cmp` gives None beside a NaN.
+// By IEEE 754, and Equal beside a NaN, where the caller has answered already.
 fn ieee(x: f64, y: f64) -> Order
     ensures { result ≡ by_ieee x y }
 {
-    if x < y {
-        Order::Less
-    } else if y < x {
-        Order::Greater
-    } else {
-        Order::Equal
-    }
+    x.partial_cmp(&y).map_or(Order::Equal, Order::from)
 }
 
 fn is_unscaled(x: f64, y: f64) -> bool

@@ -16,7 +16,7 @@ pub struct Line<'a> {
 }
 
 impl<'a> Line<'a> {
-    // Nothing has come yet.
+    // Nothing has come yet. (That the buffer keeps its length is a clause of each call: a `&mut` field may be set to another buffer.)
     pub fn new(buffer: &'a mut [u8]) -> Self
         ensures begun { begun result.buffer.now result.len ≡ Some [] }
         ensures room { length result.buffer.now ≡ length buffer.old }

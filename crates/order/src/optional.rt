@@ -1,4 +1,5 @@
-// The order of values that may be absent: absent comes before present.
+// The order of values that may be absent: absent comes before present. (By hand, as that of sequences: the project asks for one order
+// over its own traits, and the library's `Ord` gives no `Order`.)
 ghost use Rattle.std.specs.Prelude.{◌≡◌};
 ghost use Rattle.order.specs.Orders.{by_option};
 ghost use Rattle.std.proofs.Common.{rules};

@@ -1,4 +1,5 @@
-// The order of sequences: the first difference decides, and a proper beginning comes first.
+// The order of sequences: the first difference decides, and a proper beginning comes first. (One for every totally ordered element, as
+// the project asks, the pairs of optional chars among them; the library's `Ord` of slices is over its own trait.)
 ghost use Rattle.std.specs.Prelude.{◌≡◌};
 ghost use Rattle.order.specs.Orders.{by_sequence};
 

@@ -44,8 +44,8 @@ impl TextKind {
     }
 }
 
-// How two operands become one text: what a routine asks of `concat`, as an enum in the place of a function pointer, which no
-// function may hand out.
+// How two operands become one text: what a routine asks of `concat`. (An enum and no closure: `joined_by` states each rule by its
+// name, and a closure for each would need a contract of its own that says the same.)
 #[derive(Clone, Copy)]
 pub enum TextRule {
     // both, tested against the limit

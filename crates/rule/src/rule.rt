@@ -7,9 +7,9 @@ use arrayvec::ArrayVec;
 use steps::Step;
 use value::{Kind, KindSet};
 
-// A passed rule keeps the kind of each slot that it loads, at the place of its step, and the kinds that its answer can have. It is
-// an enum, and no Option, since rules speak of open and passed ones; a check replaces all that is kept at once.
-#[derive(Drop)]
+// A passed rule keeps the kind of each slot that it loads, at the place of its step, and the kinds that its answer can have. (An enum
+// and no Option: the project asks that a rule matches its own state, open or passed, by these names.)
+#[derive(Clone, Drop)]
 pub enum State {
     Open,
     Passed {

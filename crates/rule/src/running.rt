@@ -18,7 +18,9 @@ use steps::{Machine, Taken, walk};
 use text::Span;
 use value::{MOST_BYTES, Op, Value};
 
-// The value of a slot, its text behind the others.
+// The value of a slot, its text behind the others. (That a work buffer is no longer than a text may be is asked here, and is the
+// machine's ghost field below: the routines take a buffer of any length. That the slots stay as they were is a clause wherever a shelf
+// is lent as `&mut`, which it is so that a make of shelf may remember what it found.)
 fn load<S: Shelf>(slot: u32, shelf: &mut S, work: &mut Work) -> Result<Value<Span>, Fault>
     requires { length work.old.bytes.now ≤ 65536 }
     ensures gives { Gives work.old.bytes.now work.old.fill (loaded (holding (S.slots shelf.old) slot) (room work.old.fill work.old.bytes.now)) result work.new.bytes.now work.new.fill }

@@ -32,7 +32,8 @@ pub trait Shelf {
     fn mark(&self, slot: u32) -> Result<Mark, Fault>
         ensures { result ≡ asked_mark (slots self.now) slot };
 
-    // Copies the slot's text into the buffer at the place, and gives the value.
+    // Copies the slot's text into the buffer at the place, and gives the value. The shelf is lent as `&mut`, so that a make may remember
+    // what it found; that the slots stay is therefore a clause, here and of each call that lends it on.
     fn tell(&mut self, slot: u32, buffer: &mut [u8], place: usize) -> Result<Value<Span>, Fault>
         ensures answer { result ≡ (told (slots self.old) slot buffer.old place).answer }
         ensures bytes { buffer.new ≡ (told (slots self.old) slot buffer.old place).bytes }

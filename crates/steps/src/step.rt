@@ -23,7 +23,7 @@ pub enum Step {
     Assign { op: Op, local: u8 },
 }
 
-// The unit as a literal, in the unused places of a rule.
+// The unit as a literal, in the unused places of a rule. (By hand: a derive takes a case without fields only.)
 impl Default for Step {
     ghost use Rattle.value.specs.declared.value.Value.TheVariants.{Unit as Nothing};
     ghost use Rattle.steps.specs.declared.step.Step.TheVariants.{Put};

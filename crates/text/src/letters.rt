@@ -13,7 +13,7 @@ pub fn is_utf8(bytes: &[u8]) -> bool
     from_utf8(bytes).is_ok()
 }
 
-// Two strs, by their bytes.
+// Two strs, by their bytes. (By the one order of sequences, as the project asks, and not by the library's `cmp`.)
 pub fn compare_texts(a: &str, b: &str) -> Order
     ensures { result ≡ by_scalars (chars a.now) (chars b.now) }
 {
