@@ -16,7 +16,7 @@ agrees x y Equal u d = record { upward = λ _. refl; downward = λ _. refl; one 
 agrees x y Greater u d = record { upward = λ e. absurd (false≢true e); downward = λ e. absurd (false≢true e); one = λ _. inr (inr (refl, refl, refl)); apart = λ e. absurd (omega (arith, ap order_number (u e))) }
 agrees x y Unordered u d = record { upward = λ e. absurd (false≢true e); downward = λ e. absurd (false≢true e); one = λ e. absurd (d e refl); apart = λ _. (refl, refl, refl, refl, refl, refl) }
 
-ranks : (a b : Bool) → ranked a b ≡ Unordered → ⊥
+pub ranks : (a b : Bool) → ranked a b ≡ Unordered → ⊥
 ranks true b e = omega (arith, ap order_number e)
 ranks false true e = omega (arith, ap order_number e)
 ranks false false e = omega (arith, ap order_number e)
@@ -26,9 +26,15 @@ decides true c o h e = h e
 decides false true o h e = omega (arith, ap order_number e)
 decides false false o h e = h e
 
-pub float_agrees : (x y : Float) → Agrees x y (by_float x y)
-float_agrees x y =
-    let i = float_is_infinite x || float_is_infinite y in
-    agrees x y (by_float x y)
-    (λ e. ap (λ b. cond b Unordered (cond i (by_ieee x y) (cond (close x y) Equal (by_ieee x y)))) e)
-    (λ e u. decides i (close x y) (by_ieee x y) (ranks (lt x y) (lt y x)) (sym (ap (λ b. cond b Unordered (cond i (by_ieee x y) (cond (close x y) Equal (by_ieee x y)))) e) ∙ u))
+module _ (x y : Float) where
+  beside : (v : Bool) → (is_nan x || is_nan y) ≡ v → by_float x y ≡ cond v Unordered (cond (float_is_infinite x || float_is_infinite y) (by_ieee x y) (cond (close x y) Equal (by_ieee x y)))
+  beside v e = ap (λ b. cond b Unordered (cond (float_is_infinite x || float_is_infinite y) (by_ieee x y) (cond (close x y) Equal (by_ieee x y)))) e
+
+  pub unordered : (is_nan x || is_nan y) ≡ true → by_float x y ≡ Unordered
+  unordered e = beside true e
+
+  pub ordered : (is_nan x || is_nan y) ≡ false → by_float x y ≡ Unordered → ⊥
+  ordered e u = decides (float_is_infinite x || float_is_infinite y) (close x y) (by_ieee x y) (ranks (lt x y) (lt y x)) (sym (beside false e) ∙ u)
+
+  pub float_agrees : Agrees x y (by_float x y)
+  float_agrees = agrees x y (by_float x y) unordered ordered

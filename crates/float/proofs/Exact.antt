@@ -16,14 +16,14 @@ use Rattle.float.specs.Exactly.{count, Exact}
 use Rattle.float.specs.Exchange.{unscaled_exchange}
 
 -- ---- what a float that fits has: few digits, and no exponent below the lowest
-record Fine (m : ℕ) (e : ℤ) : Type 0 where
-  few : m < 2 ^ 53
-  deep : down e ≤ 2 ^ 1074
+pub record Fine (m : ℕ) (e : ℤ) : Type 0 where
+  pub few : m < 2 ^ 53
+  pub deep : down e ≤ 2 ^ 1074
 
 one_of : (u d : ℕ) → 0 < u → u * d ≡ 1 → d ≤ 1
 one_of u d h e = le_trans (le_trans (le_of_eq (sym (one-mul d))) (mul-le-mul_right d h)) (le_of_eq e)
 
-fine : (s : Bool) (m : ℕ) (e : ℤ) → T (fits binary64 (fin s m e)) → Fine m e
+pub fine : (s : Bool) (m : ℕ) (e : ℤ) → T (fits binary64 (fin s m e)) → Fine m e
 unfolding fits
 fine s zero e t = record { few = lit< tt; deep = le_trans (one_of (up e) (down e) (up_pos e) (eqb→eq (up e * down e) 1 t)) (pow_pos 1074) }
 fine s (suc m) e t =
@@ -42,7 +42,7 @@ count_shift : (s : Bool) (m : ℕ) (e : ℤ) → count (fin s m e) ≡ m * 2 ^ s
 count_shift s m (pos k) = refl
 count_shift s m (negsuc k) = refl
 
-count_is : (s : Bool) (m : ℕ) (e : ℤ) → down e ≤ 2 ^ 1074 → count (fin s m e) * down e ≡ m * up e * 2 ^ 1074
+pub count_is : (s : Bool) (m : ℕ) (e : ℤ) → down e ≤ 2 ^ 1074 → count (fin s m e) * down e ≡ m * up e * 2 ^ 1074
 count_is s m (pos k) h = mul-one (m * 2 ^ (k + 1074)) ∙ ap (λ p. m * p) (pow-add 2 k 1074) ∙ sym (mul_assoc m (2 ^ k) (2 ^ 1074))
 count_is s m (negsuc k) h =
     let le : suc k ≤ 1074 = elim (cases_lt 1074 (suc k)) [ inl b ↦ absurd (lt_irrefl (2 ^ suc k) (lt_of_le_of_lt h (pow-lt b))) | inr b ↦ b ] in
@@ -142,7 +142,7 @@ module _ (m : ℕ) (e : ℤ) (n : ℕ) (d : ℤ) (x : Fine m e) (y : Fine (suc n
       (subst (λ v. T (le v epsilon)) (divided m e n d x.deep y.deep) t)
 
 -- ---- the divisor is a number above zero that fits
-level_zero : (s : Bool) (a b : ℕ) → a ≡ 0 → b ≡ 0 → level s a false b ≡ true
+pub level_zero : (s : Bool) (a b : ℕ) → a ≡ 0 → b ≡ 0 → level s a false b ≡ true
 level_zero true a b p q = rw (p, q) refl
 level_zero false a b p q = rw (p, q) refl
 
@@ -189,11 +189,11 @@ divisor_of s (suc m) e t (suc n) d f g false b =
     ]
 
 -- ---- the answer
-is_true : (b : Bool) → T b → b ≡ true
+pub is_true : (b : Bool) → T b → b ≡ true
 is_true true t = refl
 is_true false t = absurd t
 
-is_false : (b : Bool) → (T b → ⊥) → b ≡ false
+pub is_false : (b : Bool) → (T b → ⊥) → b ≡ false
 is_false true h = absurd (h tt)
 is_false false h = refl
 

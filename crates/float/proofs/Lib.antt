@@ -1,6 +1,7 @@
 mod Exact
+mod Divided
 mod Literals
 mod Magnitudes
-mod Agree
+pub mod Agree
 mod Patterned
 mod Remaining

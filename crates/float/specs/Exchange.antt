@@ -72,7 +72,7 @@ unfolding units float_with_sign
 units_size f s q k =
     cond_size (nat_lt (q * 2 ^ k) (2 ^ (low f + suc (emax f)))) (odd (suc (prec f)) s q k (low f)) (inf s) (odd (suc (prec f)) false q k (low f)) (inf false) (odd_size (suc (prec f)) s q k (low f)) refl
 
-round_size : (f : Format) (s : Bool) (a c : ℕ) → size (round f s a c) ≡ round f false a c
+pub round_size : (f : Format) (s : Bool) (a c : ℕ) → size (round f s a c) ≡ round f false a c
 unfolding round
 round_size f s a c = units_size f s _ _
 

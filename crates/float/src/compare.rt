@@ -1,7 +1,7 @@
 // Comparing floats: two that are closer than rounding can tell are equal.
 ghost use Rattle.std.specs.Prelude.{◌≡◌};
 ghost use Rattle.float.specs.Tolerance.{by_float, by_ieee, unscaled, divisor, close};
-ghost use Rattle.float.specs.Exactly.{Exact};
+ghost use Rattle.float.specs.Exactly.{Exact, Divided};
 ghost use Rattle.float.specs.Agreement.{Agrees};
 ghost use Rattle.float.specs.Exchange.{floats_exchange};
 
@@ -53,6 +53,7 @@ fn order_floats(x: f64, y: f64) -> Order
 pub fn compare_floats(x: f64, y: f64) -> Order
     ensures value { result ≡ by_float x y }
     ensures exact { Exact x y result }
+    ensures divided { Divided x y }
     ensures agrees { Agrees x y result }
 {
     order_floats(x, y)

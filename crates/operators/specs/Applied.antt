@@ -65,3 +65,7 @@ pub record Alone (buffer : List ℕ) (given : Result Given Fault) (r : Result Ma
 -- a new value's text lies in the buffer
 abbrev pub NewWithin : Result Made Fault → List ℕ → Type 0
 NewWithin r after = (v : Value Span) → r ≡ Ok (New v) → Inside (length after) (text_in v)
+
+-- a new value, read in the buffer, is well formed: a str is UTF-8, and a text has at most 65,536 bytes
+abbrev pub NewFormed : Result Made Fault → List ℕ → Type 0
+NewFormed r after = (v : Value Span) → r ≡ Ok (New v) → well_formed (meant after v) ≡ true

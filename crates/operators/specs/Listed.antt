@@ -1,6 +1,6 @@
 -- SELECT speaks for APPLY: where it refuses, the operator refuses alike; where it gives a set of kinds, the operator's value is
 -- of one of them, or it is refused with a number from 6 to 10. The value is spelled as a value has to be: a char is a
--- scalar, a str is UTF-8. Assumes nothing.
+-- scalar, a str is UTF-8. And where the list of rows says what two kinds answer, the operator answers that. Assumes nothing.
 use Rattle.std.specs.Prelude.{◌≡◌, ◌≤◌, Bool, true, Ok, Err, Option, Result}
 use Rattle.std.proofs.Math.Utf8.{scalar}
 use Rattle.fault.specs.Refusals.{number}
@@ -12,7 +12,9 @@ use Rattle.value.specs.declared.kind.Kind.{Kind}
 use Rattle.value.specs.declared.op.Op.{Op}
 use Rattle.value.specs.declared.set.KindSet.{KindSet}
 use Rattle.rows.specs.Rows.{selected_by, selected, assign_selected}
-use Rattle.routines.specs.Calls.{Given, left, right, fresh}
+use Rattle.rows.specs.Routines.{Answer, varies, says, gives_left, gives_right}
+use Rattle.rows.specs.Table.{told, binary_groups}
+use Rattle.routines.specs.Calls.{Given, left, right, fresh, truth}
 use Rattle.routines.specs.declared.made.Limits.{Limits}
 use Rattle.operators.specs.Applied.{applied_by, applied, applied_assign}
 
@@ -50,3 +52,13 @@ abbrev pub ApplyAsSelected : Type 0
 ApplyAsSelected = (l : Limits) (op : Op) (a b : Meaning)
     → Listed (selected op (kind_in a) (kind_in b)) a b (applied l op a b)
     × Listed (assign_selected op (kind_in a) (kind_in b)) a b (applied_assign l op a b)
+
+-- an operator that comes to `given` answers as listed
+abbrev pub Answers : Answer → Result Given Fault → Type 0
+Answers varies given = Unit {0}
+Answers (says t) given = given ≡ truth t
+Answers gives_left given = given ≡ Ok left
+Answers gives_right given = given ≡ Ok right
+
+abbrev pub AnswersAsListed : Type 0
+AnswersAsListed = (l : Limits) (op : Op) (a b : Meaning) → Answers (told binary_groups op (kind_in a) (kind_in b)) (applied l op a b)

@@ -2,10 +2,12 @@
 ghost use Rattle.std.specs.Prelude.{◌≡◌, ◌≤◌, ℕ, true, ◌&&◌, List, length};
 ghost use Rattle.value.specs.Values.{meaning, well_formed};
 ghost use Rattle.routines.specs.Outcomes.{operand, Ready, Settles, filled};
-ghost use Rattle.operators.specs.Applied.{applied_by, tried, Alone, NewWithin};
-ghost use Rattle.operators.specs.Listed.{ApplyAsSelected};
+ghost use Rattle.operators.specs.Applied.{applied_by, tried, Alone, NewWithin, NewFormed};
+ghost use Rattle.operators.specs.Listed.{ApplyAsSelected, AnswersAsListed};
+ghost use Rattle.operators.specs.Numbers.{NumbersAgree};
 
 use crate::operate::operate;
+use crate::selectable::Selectable;
 use fault::Fault;
 use routines::{Call, Limits, Made, Operand, Work};
 use text::Text;
@@ -47,7 +49,7 @@ fn operate_in<R: Call>(
 
 // APPLY where R is `FnBuiltin`. Where it is `FnAssign`, its assigning form: the left operand after the assignment, which is given
 // back where nothing was added to it.
-pub fn apply<R: Call>(
+pub fn apply<R: Selectable>(
     op: Op,
     left: Value<&[u8]>,
     right: Value<&[u8]>,
@@ -56,7 +58,10 @@ pub fn apply<R: Call>(
 ) -> Result<Made, Fault>
     ensures alone { Alone buffer.old (tried (meaning (λ x. x.now) left.entry) (meaning (λ x. x.now) right.entry) (applied_by R.finds R.does limits op (meaning (λ x. x.now) left.entry) (meaning (λ x. x.now) right.entry))) result buffer.new }
     ensures within { NewWithin result buffer.new }
+    ensures formed { NewFormed result buffer.new }
     ensures listed { ApplyAsSelected }
+    ensures answers { AnswersAsListed }
+    ensures numbers { NumbersAgree }
 {
     if !are_well_formed(left, right) {
         return Err(Fault::Malformed);

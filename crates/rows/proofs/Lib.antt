@@ -1,1 +1,1 @@
-mod Listed
+pub mod Listed

@@ -1,4 +1,5 @@
--- Which kinds a routine can give. Assumes nothing.
+-- Which kinds a routine can give, and what it answers where the kinds alone settle that. Assumes nothing.
+use Rattle.std.specs.Prelude.{Bool}
 use Rattle.rows.specs.declared.routine.RangeKind.{RangeKind}
 use Rattle.rows.specs.declared.routine.RangeKind.TheVariants.{Exclusive, Inclusive}
 use Rattle.rows.specs.declared.routine.FnBuiltin.{FnBuiltin}
@@ -43,3 +44,28 @@ assign_results assign.CharByChar = single kind.Str
 assign_results assign.CharByStr = united (single kind.Char) (single kind.Str)
 assign_results assign.BlobByBlob = single kind.Blob
 assign_results assign.BlobByOther = single kind.Blob
+
+-- what an operator answers: it turns on the values, or is the same for all
+pub data Answer : Type 0 where
+  varies : Answer
+  says : Bool → Answer
+  gives_left : Answer
+  gives_right : Answer
+
+abbrev pub answers : FnBuiltin → Answer
+answers (builtin.Int f) = varies
+answers (builtin.Float f) = varies
+answers (builtin.Bool f) = varies
+answers (builtin.CompareInts c) = varies
+answers (builtin.CompareFloats c) = varies
+answers (builtin.CompareBools c) = varies
+answers (builtin.CompareTexts c) = varies
+answers (builtin.EqualBlobs b) = varies
+answers (builtin.EqualRanges b) = varies
+answers (builtin.Constant b) = says b
+answers (builtin.Range r) = varies
+answers builtin.Concat = varies
+answers builtin.ConcatBlobs = varies
+answers builtin.AppendChar = varies
+answers builtin.First = gives_left
+answers builtin.Second = gives_right

@@ -1,6 +1,6 @@
--- The rows a second time, as a user lists them: groups of operators and kinds with what they give. The first group that an
--- operator and two kinds belong to decides, and what belongs to none has no row. `RowsAsListed` says that these are the
--- rows of `specs/Rows.antt`. Assumes nothing.
+-- The rows a second time, as a user lists them: groups of operators and kinds with what they give, and with what they answer
+-- where the kinds alone settle that. The first group that an operator and two kinds belong to decides, and what belongs to none
+-- has no row. `RowsAsListed` says that these are the rows of `specs/Rows.antt`. Assumes nothing.
 use Rattle.std.specs.Prelude.{◌≡◌, Bool, false, cond, not, ◌&&◌, ◌||◌, List, [], ◌∷◌, Some, None, Option, ◌==◌}
 use Rattle.std.specs.Option.{ok_or}
 use Rattle.fault.specs.declared.Fault.TheVariants.{NoRow}
@@ -11,7 +11,9 @@ use Rattle.value.specs.declared.kind.Kind.TheVariants as kind
 use Rattle.value.specs.declared.set.KindSet.{KindSet}
 use Rattle.value.specs.declared.op.Op.{Op}
 use Rattle.value.specs.declared.op.Op.TheVariants.{Plus, Minus, Multiply, Divide, Modulo, PowerOf, LeftShift, RightShift, Ampersand, Pipe, XOr, EqualsTo, NotEqualsTo, LessThan, LessThanEqualsTo, GreaterThan, GreaterThanEqualsTo, ExclusiveRange, InclusiveRange}
-use Rattle.rows.specs.Rows.{selected, assign_selected}
+use Rattle.rows.specs.declared.routine.FnBuiltin.{FnBuiltin}
+use Rattle.rows.specs.Routines.{Answer, varies, says, gives_left, gives_right, answers}
+use Rattle.rows.specs.Rows.{row_of, selected, assign_selected}
 
 abbrev pub is_op : List Op → Op → Bool
 is_op [] op = false
@@ -25,17 +27,37 @@ pub record Group : Type 0 where
   pub ops : List Op
   pub kinds : Kind → Kind → Bool
   pub gives : Option KindSet
+  pub fixed : Op → Answer
 
+-- the values decide
 abbrev pub group : List Op → (Kind → Kind → Bool) → Kind → Group
-group os who k = record { ops = os; kinds = who; gives = Some (single k) }
+group os who k = record { ops = os; kinds = who; gives = Some (single k); fixed = λ _. varies }
+
+-- comparisons, of which only one is true
+abbrev pub only : Op → List Op → (Kind → Kind → Bool) → Group
+only true_one os who = record { ops = os; kinds = who; gives = Some (single kind.Bool); fixed = λ op. says (op_number true_one == op_number op) }
+
+-- + that gives back an operand
+abbrev pub back : Answer → (Kind → Kind → Bool) → Kind → Group
+back which who k = record { ops = Plus ∷ []; kinds = who; gives = Some (single k); fixed = λ _. which }
 
 -- no row
 abbrev pub none : List Op → (Kind → Kind → Bool) → Group
-none os who = record { ops = os; kinds = who; gives = None }
+none os who = record { ops = os; kinds = who; gives = None; fixed = λ _. varies }
 
 abbrev pub found : List Group → Op → Kind → Kind → Option KindSet
 found [] op a b = None
 found (g ∷ gs) op a b = cond (is_op g.ops op && g.kinds a b) g.gives (found gs op a b)
+
+-- what the group says that decides
+abbrev pub told : List Group → Op → Kind → Kind → Answer
+told [] op a b = varies
+told (g ∷ gs) op a b = cond (is_op g.ops op && g.kinds a b) (g.fixed op) (told gs op a b)
+
+-- what a row answers; where there is none, nothing is said
+abbrev pub in_row : Option FnBuiltin → Answer
+in_row None = varies
+in_row (Some f) = answers f
 
 -- ---- operators and kinds by groups
 
@@ -86,13 +108,16 @@ binary_groups =
     ∷ group (Plus ∷ []) (between (kind.Blob ∷ []) (kind.Blob ∷ kind.Char ∷ [])) kind.Blob
     ∷ group same (two kind.Blob) kind.Bool
     ∷ none six (one_one kind.Blob kind.Char)
-    ∷ group six (two kind.Unit) kind.Bool
+    ∷ only EqualsTo six (two kind.Unit)
     ∷ group (ExclusiveRange ∷ []) (either_side kind.Unit (kind.Int ∷ [])) kind.Excl
     ∷ group (InclusiveRange ∷ []) (either_side kind.Unit (kind.Int ∷ [])) kind.Incl
-    ∷ group (Plus ∷ []) (either_side kind.Unit (kind.Str ∷ [])) kind.Str
-    ∷ group same (between (kind.Excl ∷ kind.Incl ∷ []) (kind.Excl ∷ kind.Incl ∷ [])) kind.Bool
+    ∷ back gives_right (one_one kind.Unit kind.Str) kind.Str
+    ∷ back gives_left (one_one kind.Str kind.Unit) kind.Str
+    ∷ group same (two kind.Excl) kind.Bool
+    ∷ group same (two kind.Incl) kind.Bool
+    ∷ only NotEqualsTo same (either_side kind.Excl (kind.Incl ∷ []))
     ∷ none six (between (kind.Excl ∷ kind.Incl ∷ []) (kind.Excl ∷ kind.Incl ∷ []))
-    ∷ group six unequal kind.Bool
+    ∷ only NotEqualsTo six unequal
     ∷ []
 
 abbrev pub assign_groups : List Group
@@ -102,10 +127,14 @@ assign_groups =
     ∷ group five (between (kind.Float ∷ []) (kind.Float ∷ kind.Int ∷ [])) kind.Float
     ∷ group (Plus ∷ []) (between (kind.Str ∷ []) (kind.Str ∷ kind.Char ∷ [])) kind.Str
     ∷ group (Plus ∷ []) (two kind.Char) kind.Str
-    ∷ record { ops = Plus ∷ []; kinds = one_one kind.Char kind.Str; gives = Some (united (single kind.Char) (single kind.Str)) }
+    ∷ record { ops = Plus ∷ []; kinds = one_one kind.Char kind.Str; gives = Some (united (single kind.Char) (single kind.Str)); fixed = λ _. varies }
     ∷ group (Plus ∷ []) (between (kind.Blob ∷ []) (kind.Blob ∷ kind.Int ∷ kind.Char ∷ kind.Str ∷ [])) kind.Blob
     ∷ []
 
+-- the kinds that a row gives are the listed ones, in both forms; and so is what the binary one answers. An assigning one never
+-- answers by the kinds alone.
 abbrev pub RowsAsListed : Type 0
 RowsAsListed = (op : Op) (a b : Kind)
-    → (selected op a b ≡ ok_or (found binary_groups op a b) NoRow) × (assign_selected op a b ≡ ok_or (found assign_groups op a b) NoRow)
+    → (selected op a b ≡ ok_or (found binary_groups op a b) NoRow)
+    × (assign_selected op a b ≡ ok_or (found assign_groups op a b) NoRow)
+    × (in_row (row_of op a b) ≡ told binary_groups op a b)

@@ -16,7 +16,7 @@ pub fn select<R: Routine>(op: Op, left: Kind, right: Kind) -> Result<KindSet, Fa
         .ok_or(Fault::NoRow)
 }
 
-// The rows are those of the printed table.
+// The rows are those of the printed table, with what they answer where the kinds alone settle that.
 pub fn rows_stand() -> u8
     ensures { RowsAsListed }
 {
