@@ -6,4 +6,5 @@ pub mod Laws
 mod Decimal
 mod Naming
 pub mod Ranges
-mod Valued
+pub mod Valued
+pub mod Same

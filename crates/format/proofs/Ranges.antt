@@ -81,3 +81,7 @@ module _ (bs first : List ℕ) (a b : ℤ) (f : SFits w64 a) (g : SFits w64 b) (
 -- what stands behind a separator is shorter than the whole
 pub shorter : (sep : ℕ) (bs x y : List ℕ) → fields sep bs ≡ x ∷ fields sep y → length y < length bs
 shorter sep bs x y e = let l = ap length (two_parts sep bs x y e) ∙ length-append x (sep ∷ y) in omega arith
+
+-- the whole is known by its parts
+pub fields_same : (sep : ℕ) (xs ys : List ℕ) → fields sep xs ≡ fields sep ys → xs ≡ ys
+fields_same sep xs ys e = sym (rejoined sep xs) ∙ ap (join sep) e ∙ rejoined sep ys

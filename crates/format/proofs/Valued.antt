@@ -48,7 +48,7 @@ holding kind.Blob d = blob d
 holding kind.Excl d = excl d.0 d.1
 holding kind.Incl d = incl d.0 d.1
 
-data_of : (m : Meaning) → (d : Data (kind_in m)) × (m ≡ holding (kind_in m) d)
+pub data_of : (m : Meaning) → (d : Data (kind_in m)) × (m ≡ holding (kind_in m) d)
 data_of unit = (tt, refl)
 data_of (bool b) = (b, refl)
 data_of (int n) = (n, refl)

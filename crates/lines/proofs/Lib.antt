@@ -1,0 +1,5 @@
+mod Ended
+mod Spelling
+mod Placed
+mod Told
+mod Judged
