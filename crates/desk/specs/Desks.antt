@@ -1,9 +1,9 @@
 -- A desk is as the book has it, whatever the make of its shelf. Assumes nothing.
-use Rattle.std.specs.Prelude.{◌≡◌, ℕ, List, [], ◌∷◌, ◌++◌, map, length, Ok, Result}
+use Rattle.std.specs.Prelude.{◌≡◌, ℕ, true, List, [], ◌∷◌, ◌++◌, map, length, Ok, Result}
 use Rattle.fault.specs.Refusals.{bind}
 use Rattle.fault.specs.declared.Refusal.{Refusal}
 use Rattle.text.specs.declared.span.Span.{Span}
-use Rattle.value.specs.Values.{text_in, Inside}
+use Rattle.value.specs.Values.{meant, well_formed, text_in, Inside}
 use Rattle.value.specs.declared.value.Value.{Value}
 use Rattle.shelf.specs.Slots.{Slot}
 use Rattle.rule.specs.Rules.{rule_of}
@@ -29,6 +29,10 @@ meant_by work r = bind r (λ x. Ok (says work x))
 -- the text of a value that is replied, if it has one, lies in the work buffer
 abbrev pub WithinWork : List ℕ → Result Reply Refusal → Type 0
 WithinWork work r = (v : Value Span) → r ≡ Ok (reply.Value v) → Inside (length work) (text_in v)
+
+-- a value that is replied, read in the work buffer, is well formed: a str is UTF-8, and a text has at most 65,536 bytes
+abbrev pub WorkFormed : List ℕ → Result Reply Refusal → Type 0
+WorkFormed work r = (v : Value Span) → r ≡ Ok (reply.Value v) → well_formed (meant work v) ≡ true
 
 -- the main theorem, of one call: after every list of calls that made the desk what it is, the call is lawful, and the desk is then
 -- what these calls and this one make of it

@@ -8,7 +8,7 @@ use Rattle.fault.specs.declared.Fault.{Fault}
 use Rattle.fault.specs.declared.Fault.TheVariants.{NotPassed, Outdated}
 use Rattle.fault.specs.declared.Refusal.{Refusal}
 use Rattle.value.specs.Kinds.{has}
-use Rattle.value.specs.Values.{Meaning, kind_in}
+use Rattle.value.specs.Values.{Meaning, kind_in, well_formed}
 use Rattle.value.specs.declared.op.Op.{Op}
 use Rattle.value.specs.declared.set.KindSet.{KindSet}
 use Rattle.rows.specs.Rows.{selected, assign_selected}
@@ -145,7 +145,12 @@ RunOf first past (add x) work said work' = Unit {0}
 RunOf first past check work said work' = Unit {0}
 RunOf first past (run l) work said work' = RunLaw first past l work said work'
 
+-- a value that is said is well formed: a str is UTF-8, and a text has at most 65,536 bytes
+abbrev pub SaidFormed : Result Said Refusal → Type 0
+SaidFormed said = (m : Meaning) → said ≡ Ok (value m) → well_formed m ≡ true
+
 -- what a call says after the calls `past`, and every byte that it leaves: what the book answers, and by the law of runs
 pub record Lawful (first : List Slot) (past : List Event) (c : Event) (work : List ℕ) (said : Result Said Refusal) (work' : List ℕ) : Type 0 where
   pub answer : answered (book first past) c work ≡ beside work' said
   pub run : RunOf first past c work said work'
+  pub formed : SaidFormed said

@@ -2,7 +2,7 @@
 ghost use Rattle.std.specs.Prelude.{◌≡◌, []};
 ghost use Rattle.fault.specs.Outcomes.{beside};
 ghost use Rattle.desk.specs.Book.{event, feed, answered};
-ghost use Rattle.desk.specs.Desks.{Reached, Served, WithinWork, desk_of, meant_by};
+ghost use Rattle.desk.specs.Desks.{Reached, Served, WithinWork, WorkFormed, desk_of, meant_by};
 
 use crate::call::{Call, Reply};
 use crate::desk::Desk;
@@ -25,6 +25,7 @@ impl<S: Shelf> Desk<S> {
         ensures answer { answered (desk_of (S.slots self.old.shelf) self.old.rule) (event call.entry) work.old ≡ beside work.new (meant_by work.new result) }
         ensures after { desk_of (S.slots self.new.shelf) self.new.rule ≡ feed (desk_of (S.slots self.old.shelf) self.old.rule) (event call.entry) }
         ensures within { WithinWork work.new result }
+        ensures formed { WorkFormed work.new result }
     {
         match call {
             Call::Post { slot, value } => {
@@ -56,6 +57,7 @@ impl<S: Shelf> Desk<S> {
     pub fn serve(&mut self, call: Call, work: &mut [u8]) -> Result<Reply, Refusal>
         ensures served { Served (S.slots self.old.shelf) self.old.rule (event call.entry) work.old result work.new (S.slots self.new.shelf) self.new.rule }
         ensures within { WithinWork work.new result }
+        ensures formed { WorkFormed work.new result }
     {
         self.answer(call, work)
     }

@@ -1,6 +1,6 @@
 // Operators in a run, on values whose texts are in the work buffer. That the buffer is no longer than a text may be is asked here,
 // and is no invariant of it, since the routines take one of any length.
-ghost use Rattle.std.specs.Prelude.{◌≡◌, ℕ, ◌≤◌, List, length, Ok};
+ghost use Rattle.std.specs.Prelude.{◌≡◌, ℕ, ◌≤◌, List, length, Ok, OnErr};
 ghost use Rattle.fault.specs.Refusals.{bind};
 ghost use Rattle.value.specs.Values.{meant};
 ghost use Rattle.routines.specs.Outcomes.{operand, Ready};
@@ -63,7 +63,7 @@ pub fn apply_held<R: Selectable>(
     Ok(pick(made, a, b))
 }
 
-// The assigning operator on a value of the run, in place.
+// The assigning operator on a value of the run, in place; a refusal leaves it.
 pub fn assign_held(
     op: Op,
     left: &mut Value<Span>,
@@ -75,6 +75,7 @@ pub fn assign_held(
     requires short { length work.old.bytes.now ≤ 65536 }
     ensures gives { Gives work.old.bytes.now work.old.fill (assigned_in work.old.limits op (room work.old.fill work.old.bytes.now) (meant work.old.bytes.now left.old) (meant work.old.bytes.now right)) (bind result (λ _. Ok left.new)) work.new.bytes.now work.new.fill }
     ensures kept { Kept work.old work.new }
+    ensures left { OnErr result (left.new ≡ left.old) }
 {
     *left = apply_held::<FnAssign>(op, *left, right, work)?;
     Ok(())

@@ -1,4 +1,4 @@
 mod Gathers
 mod Fresh
-mod Loads
+pub mod Loads
 mod Parts

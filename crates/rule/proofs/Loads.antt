@@ -15,7 +15,7 @@ use Rattle.shelf.specs.Slots.{Slot, all_formed, holding}
 use Rattle.shelf.specs.Calls.{told, tell_at}
 use Rattle.rule.specs.Run.{loaded}
 
-formed_at : (slots : List Slot) (i : ℕ) (s : Slot) → all_formed slots ≡ true → slice_get slots i ≡ Some s → well_formed s.holds ≡ true
+pub formed_at : (slots : List Slot) (i : ℕ) (s : Slot) → all_formed slots ≡ true → slice_get slots i ≡ Some s → well_formed s.holds ≡ true
 formed_at [] i s f e = absurd (let z : ◌≡◌ {A = ℕ} 0 1 = cc in omega arith)
 formed_at (x ∷ xs) zero s f e = let q : x ≡ s = cc in ap (λ y. well_formed y.holds) (sym q) ∙ (and_parts (well_formed x.holds) (all_formed xs) f).0
 formed_at (x ∷ xs) (suc i) s f e = formed_at xs i s (and_parts (well_formed x.holds) (all_formed xs) f).1 e

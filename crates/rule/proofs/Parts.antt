@@ -6,7 +6,7 @@ use Rattle.fault.specs.Refusals.{bind}
 use Rattle.fault.specs.declared.Refusal.{Refusal}
 use Rattle.text.proofs.Laws.{take_first, drop_first}
 use Rattle.text.specs.declared.span.Span.{Span}
-use Rattle.value.specs.Values.{meant, text_in, Inside}
+use Rattle.value.specs.Values.{meant, well_formed, text_in, Inside}
 use Rattle.value.specs.declared.value.Value.{Value}
 use Rattle.routines.specs.declared.made.Limits.{Limits}
 use Rattle.operators.specs.Applied.{Held}
@@ -27,6 +27,7 @@ pub comes_walks : (l : Limits) (env : Env) (xs : List Step) (work : List ℕ) (r
 comes_walks l env xs work r work' fill' left q c g = subst (Walks l env xs work r) (sym q) (record {
   outcome = λ rest. ap (with_rest rest) c.outcome ∙ rest_beside rest fill' work' (bind r (λ v. Ok (meant work' v)));
   inside = λ v q. inside_more fill' (length work') (text_in v) (omega (arith, g.inside, g.size)) (c.held v q).below;
+  formed = λ v q. (c.held v q).formed;
   size = g.size;
 })
 
@@ -47,4 +48,5 @@ walks_end l env xs work n r work' e w =
     record {
       outcome = first ∙ w.outcome (drop n work) ∙ ap (beside (work' ++ drop n work)) (answer_append work' (drop n work) r w.inside);
       inside = λ v q. inside_append work' (drop n work) v (w.inside v q);
+      formed = λ v q. ap well_formed (sym (meant_append work' (drop n work) v (w.inside v q))) ∙ w.formed v q;
     }

@@ -1,5 +1,5 @@
 // The calls on a frame.
-ghost use Rattle.std.specs.Prelude.{◌≡◌, ◌<◌, [], replicate};
+ghost use Rattle.std.specs.Prelude.{◌≡◌, ◌<◌, [], replicate, OnErr};
 ghost use Rattle.steps.specs.Walk.{entries, pushed, popped, kept, finish};
 ghost use Rattle.steps.specs.Frames.{held, leaving, done};
 
@@ -19,7 +19,8 @@ impl<T: Copy> Frame<T> {
     }
 
     pub fn push(&mut self, x: T) -> Result<(), Fault>
-        ensures { pushed x (held self.old) ≡ done result (held self.new) }
+        ensures answer { pushed x (held self.old) ≡ done result (held self.new) }
+        ensures left { OnErr result (held self.new ≡ held self.old) }
     {
         if self.count >= 16 {
             return Err(Fault::Stack);
@@ -30,7 +31,8 @@ impl<T: Copy> Frame<T> {
     }
 
     pub fn pop(&mut self) -> Result<T, Fault>
-        ensures { popped (held self.old) ≡ leaving result (held self.new) }
+        ensures answer { popped (held self.old) ≡ leaving result (held self.new) }
+        ensures left { OnErr result (held self.new ≡ held self.old) }
     {
         if self.count == 0 {
             return Err(Fault::Stack);

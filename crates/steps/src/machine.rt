@@ -1,5 +1,5 @@
 // What a walk works with: what its entries are, and what a literal, a slot and an operator come to.
-ghost use Rattle.std.specs.Prelude.{◌≡◌, ℕ, [], Ok};
+ghost use Rattle.std.specs.Prelude.{◌≡◌, ℕ, [], Ok, OnErr};
 ghost use Rattle.fault.specs.Refusals.{bind};
 ghost use Rattle.value.specs.Values.{meant, kind_of};
 ghost use Rattle.steps.specs.Steps.{takes_literal};
@@ -48,11 +48,12 @@ pub trait Machine {
         ensures comes { Comes (means self.new) (holds self.new) (world self.new) ((does self.old).apply op (means self.old left) (means self.old right) (world self.old)) result }
         ensures later { later self.old self.new };
 
-    // Assigns to the local in place.
+    // Assigns to the local in place; a refusal leaves it.
     fn assign(&mut self, op: Op, local: &mut Self::Entry, right: Self::Entry) -> Result<(), Fault>
         requires left { holds self.old local.old }
         requires right { holds self.old right }
         ensures comes { Comes (means self.new) (holds self.new) (world self.new) ((does self.old).assign op (means self.old local.old) (means self.old right) (world self.old)) (bind result (λ _. Ok local.new)) }
+        ensures left { OnErr result (local.new ≡ local.old) }
         ensures later { later self.old self.new };
 
     // each state comes of itself, calls lead on, and what is later keeps every entry
