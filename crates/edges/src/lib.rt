@@ -1,5 +1,5 @@
-// Tests at the edges, on values that no proof chose: limits of size, room in a buffer, the longest texts, and which refusal of a
-// shelf comes first. There is no code here but tests.
+// Tests at the edges, on values worked by hand from the rules: limits of size, room in a buffer, the longest texts, and the order of
+// a shelf's refusals. There is no code here but tests.
 #![tactic(auto)]
 
 #[cfg(test)]
@@ -10,5 +10,9 @@ mod malformed;
 mod room;
 #[cfg(test)]
 mod runs;
+#[cfg(test)]
+mod shelves;
+#[cfg(test)]
+mod tables;
 #[cfg(test)]
 mod trial;

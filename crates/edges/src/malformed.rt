@@ -6,13 +6,8 @@ use routines::{Call, Limits};
 use std::process::Abort;
 use value::{Op, Value};
 
-// A limit that every one of the operands passes.
+// Limits that a sum with any of the operands would be over.
 const SHORT: Limits = Limits { string: 1, blob: 1 };
-
-// With a row, and without one.
-const ROW: Op = Op::Plus;
-
-const NO_ROW: Op = Op::Minus;
 
 fn case<'a>(
     op: Op,
@@ -31,9 +26,9 @@ fn case<'a>(
     }
 }
 
-// A malformed operand on the left, on the right and on both sides, of an operator with a row and of one without.
+// A malformed operand on the left, on the right and on both sides, of an operator with a row and of two without.
 fn refused<R: Call>(rt: &impl Abort, bad: Value<&[u8]>, good: Value<&[u8]>) {
-    for op in [ROW, NO_ROW] {
+    for op in [Op::Plus, Op::Minus, Op::ExclusiveRange] {
         for limits in [NONE, SHORT] {
             hold::<R>(
                 rt,
@@ -92,7 +87,7 @@ fn longest_texts_without_a_row(rt: HostRuntime) {
         (Value::Blob(longest), Value::Blob(longest)),
         (Value::Str(b"\xc2\x80"), Value::Str(b"a")),
     ] {
-        let cases = [case(NO_ROW, left, right, NONE, Fault::NoRow)];
+        let cases = [case(Op::Minus, left, right, NONE, Fault::NoRow)];
         hold::<FnBuiltin>(&rt, &cases);
         hold::<FnAssign>(&rt, &cases);
     }
