@@ -52,6 +52,7 @@ fn compare_blobs(asked: bool, work: &Work, a: Operand, b: Operand) -> Result<Mad
 impl Call for FnBuiltin {
     ghost does = { called };
 
+    #[inline(always)]
     fn call(self, a: Operand, b: Operand, work: &mut Work) -> Result<Made, Fault> {
         match self {
             FnBuiltin::Int(f) => call_ints(f, a, b),
@@ -82,6 +83,7 @@ impl Call for FnBuiltin {
 impl Call for FnAssign {
     ghost does = { assigned };
 
+    #[inline(always)]
     fn call(self, a: Operand, b: Operand, work: &mut Work) -> Result<Made, Fault> {
         match self {
             FnAssign::Int(f) => call_ints(f, a, b),

@@ -17,12 +17,14 @@ use whole::{Arithmetic, compute};
 
 // The calls on ints, floats and truth values stay three: each has its own operation, and one of them can fail; one function over
 // these would take both operands and the operation, and be no plainer.
+#[inline(always)]
 pub(crate) fn call_ints(f: Arithmetic, a: Operand, b: Operand) -> Result<Made, Fault>
     ensures { Plainly (builtin.Int f) a.entry b.entry result }
 {
     Ok(Made::New(Value::Int(compute(f, as_int(a)?, as_int(b)?)?)))
 }
 
+#[inline(always)]
 pub(crate) fn call_floats(f: FloatArithmetic, a: Operand, b: Operand) -> Result<Made, Fault>
     ensures { Plainly (builtin.Float f) a.entry b.entry result }
 {

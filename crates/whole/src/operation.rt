@@ -22,6 +22,7 @@ pub enum Arithmetic {
     Xor,
 }
 
+#[inline(always)]
 pub fn compute(operation: Arithmetic, x: i64, y: i64) -> Result<i64, Fault>
     ensures { result ≡ computed operation x y }
 {
