@@ -1,8 +1,9 @@
 // Answering a case.
-ghost use Rattle.std.specs.Prelude.{◌≡◌, option_map};
+ghost use Rattle.std.specs.Prelude.{◌≡◌, [], ◌∷◌, ◌++◌, OnOk, Err, option_map};
+ghost use Rattle.std.specs.Io.KnownBytes.{Appends};
 ghost use Rattle.value.specs.Values.{float, meaning};
 ghost use Rattle.cases.specs.Cases.{spelled};
-ghost use Rattle.cases.specs.Judged.{plain_named, operator_named, ReadsLimit, ReadsBits, ReadsOperand, operated_by, Judged, shown_meaning};
+ghost use Rattle.cases.specs.Judged.{plain_named, operator_named, ReadsLimit, ReadsBits, ReadsOperand, operated_by, Judged, shown_case, AnswersCase, shown_meaning};
 
 use crate::case::{Case, Form, read_case};
 use fault::Fault;
@@ -129,12 +130,14 @@ impl Judge {
     }
 }
 
-fn write_refusal<W: Write>(fault: Fault, out: &mut W) -> io::Result<()> {
+fn write_refusal<W: Write>(fault: Fault, out: &mut W) -> io::Result<()>
+    ensures { OnOk result (Appends (W.contents out.old) (W.contents out.new) (shown_case (Err fault) ++ (10 ∷ []))) }
+{
     writeln!(out, "no\t{}", u8::from(fault))
 }
 
 impl Answerer for Judge {
-    ghost answers = { λ _ _ _. Unit {0} };
+    ghost answers = { λ _ line _ bytes. AnswersCase line bytes };
 
     fn answer<W: Write>(&mut self, line: &[u8], out: &mut W) -> io::Result<()> {
         let Some(case) = read_case(line) else {

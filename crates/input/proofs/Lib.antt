@@ -1,1 +1,2 @@
 mod Feeding
+mod Known

@@ -1,6 +1,7 @@
 // Handing lines on as they come.
 ghost use Rattle.std.specs.Prelude.{◌≡◌, List, [], ℕ, length, OnOk, Some, None, Option};
-ghost use Rattle.input.specs.Lines.{begun, longer, Fed};
+ghost use Rattle.std.specs.Io.KnownBytes.{Appends};
+ghost use Rattle.input.specs.Lines.{begun, longer, Fed, Answers};
 
 use crate::begun::Line;
 use format::cuts::cut_at;
@@ -9,15 +10,15 @@ use std::io::{Read, Write};
 
 // Who answers lines. Who answers and where it is written stay two parameters: any answerer writes to any writer.
 pub trait Answerer {
-    // what answering a line makes of it; None is a line that is too long to be kept
-    ghost answers: { Self → Option (List ℕ) → Self → Type 0 };
+    // what answering a line makes of it, and the bytes of the answer; None is a line that is too long to be kept
+    ghost answers: { Self → Option (List ℕ) → Self → List ℕ → Type 0 };
 
     fn answer<W: Write>(&mut self, line: &[u8], out: &mut W) -> io::Result<()>
-        ensures { answers self.old (Some line.now) self.new };
+        ensures { Answers answers self.old (Some line.now) self.new result (W.contents out.old) (W.contents out.new) };
 
     // Answers a line that is too long to be kept.
     fn refuse<W: Write>(&mut self, out: &mut W) -> io::Result<()>
-        ensures { answers self.old None self.new };
+        ensures { Answers answers self.old None self.new result (W.contents out.old) (W.contents out.new) };
 }
 
 impl Line<'_> {
@@ -28,7 +29,7 @@ impl Line<'_> {
         answerer: &mut A,
         out: &mut W,
     ) -> io::Result<()>
-        ensures answers { A.answers answerer.old (longer (length self.old.buffer.now) (begun self.old.buffer.now self.old.len) part.now) answerer.new }
+        ensures answers { Answers A.answers answerer.old (longer (length self.old.buffer.now) (begun self.old.buffer.now self.old.len) part.now) answerer.new result (W.contents out.old) (W.contents out.new) }
         ensures next { begun self.new.buffer.now self.new.len ≡ Some [] }
         ensures room { length self.new.buffer.now ≡ length self.old.buffer.now }
     {
@@ -46,7 +47,9 @@ impl Line<'_> {
         answerer: &mut A,
         out: &mut W,
     ) -> io::Result<()>
-        ensures fed { OnOk result (Fed A.answers (length self.old.buffer.now) answerer.old (begun self.old.buffer.now self.old.len) chunk.now answerer.new (begun self.new.buffer.now self.new.len)) }
+        ensures fed { OnOk result ((written : List ℕ)
+            × Fed A.answers (length self.old.buffer.now) answerer.old (begun self.old.buffer.now self.old.len) chunk.now answerer.new (begun self.new.buffer.now self.new.len) written
+            × Appends (W.contents out.old) (W.contents out.new) written) }
         ensures room { length self.new.buffer.now ≡ length self.old.buffer.now }
     {
         let mut cut = cut_at(chunk, b'\n');
