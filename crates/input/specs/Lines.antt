@@ -26,6 +26,16 @@ behind room b [] = b
 behind room b (f ∷ []) = longer room b f
 behind room b (f ∷ g ∷ fs) = behind room (Some []) (g ∷ fs)
 
+-- the lines of a whole input, of its parts between line feeds: the last part is one only where it is not empty
+abbrev pub last_line : ℕ → List ℕ → List (Option (List ℕ))
+last_line room [] = []
+last_line room (c ∷ cs) = longer room (Some []) (c ∷ cs) ∷ []
+
+unfoldable pub lines : ℕ → List (List ℕ) → List (Option (List ℕ))
+lines room [] = []
+lines room (f ∷ []) = last_line room f
+lines room (f ∷ g ∷ fs) = longer room (Some []) f ∷ lines room (g ∷ fs)
+
 -- a line is answered, and where that succeeds the bytes of the answer were written, behind what was written before
 abbrev pub Answers : {A E : Type 0} → (A → Option (List ℕ) → A → List ℕ → Type 0) → A → Option (List ℕ) → A
     → Result (Unit {0}) E → Option (List ℕ) → Option (List ℕ) → Type 0

@@ -1,12 +1,13 @@
 // Handing lines on as they come.
-ghost use Rattle.std.specs.Prelude.{◌≡◌, List, [], ℕ, length, OnOk, Some, None, Option};
-ghost use Rattle.std.specs.Io.KnownBytes.{Appends};
-ghost use Rattle.input.specs.Lines.{begun, longer, Fed, Answers};
+ghost use Rattle.std.specs.Prelude.{◌≡◌, List, [], ℕ, ◌<◌, length, OnOk, Some, None, Option};
+ghost use Rattle.std.specs.Io.KnownBytes.{Appends, Consumes, IsAtEnd};
+ghost use Rattle.format.specs.Fields.{fields};
+ghost use Rattle.input.specs.Lines.{begun, longer, Fed, Answers, Answered, lines};
 
 use crate::begun::Line;
 use format::cuts::cut_at;
 use std::io;
-use std::io::{Read, Write};
+use std::io::{ErrorKind, Read, Write};
 
 // Who answers lines. Who answers and where it is written stay two parameters: any answerer writes to any writer.
 pub trait Answerer {
@@ -70,19 +71,26 @@ pub fn serve<R: Read, A: Answerer, W: Write>(
     buffer: &mut [u8],
     answerer: &mut A,
     out: &mut W,
-) -> io::Result<()> {
+) -> io::Result<()>
+    // to the end, where there is room to read into
+    ensures end { OnOk result (0 < length chunk.old → IsAtEnd (R.remaining input.new)) }
+    ensures served { OnOk result ((read : List ℕ) × (written : List ℕ)
+        × Consumes (R.remaining input.old) (R.remaining input.new) read
+        × Answered A.answers answerer.old (lines (length buffer.old) (fields 10 read)) answerer.new written
+        × Appends (W.contents out.old) (W.contents out.new) written) }
+{
     let mut line = Line::new(buffer);
     // a count that no input reaches, since every loop has to have an end
     for _ in 0..u64::MAX {
         let n = input.read(chunk)?;
         if n == 0 {
-            break;
+            if line.len != Some(0) {
+                line.end(answerer, out)?;
+            }
+            return out.flush();
         }
         line.feed(&chunk[..n], answerer, out)?;
         out.flush()?;
     }
-    if line.len != Some(0) {
-        line.end(answerer, out)?;
-    }
-    out.flush()
+    Err(ErrorKind::TimedOut.into())
 }
