@@ -1,1 +1,2 @@
 mod Nine
+mod Given

@@ -34,7 +34,7 @@ impl<S: Shelf> Clerk<S> {
 }
 
 impl<S: Shelf> Answerer for Clerk<S> {
-    ghost answers = { λ c line d. AnswersLine line (S.slots c.desk.shelf) c.desk.rule c.work (S.slots d.desk.shelf) d.desk.rule d.work };
+    ghost answers = { λ c line d bytes. AnswersLine line (S.slots c.desk.shelf) c.desk.rule c.work (S.slots d.desk.shelf) d.desk.rule d.work bytes };
 
     fn answer<W: Write>(&mut self, line: &[u8], out: &mut W) -> io::Result<()> {
         let reply = serve_line(&mut self.desk, line, &mut self.scratch, &mut self.work);

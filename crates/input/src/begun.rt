@@ -1,6 +1,6 @@
 // The line that has begun and whose end has not come yet.
 ghost use Rattle.std.specs.Prelude.{◌≡◌, ℕ, ◌≤◌, [], length, Some};
-ghost use Rattle.input.specs.Lines.{begun, longer};
+ghost use Rattle.input.specs.Lines.{begun, longer, Answers};
 
 use crate::reading::Answerer;
 use std::io::Write;
@@ -48,7 +48,7 @@ impl<'a> Line<'a> {
         answerer: &mut A,
         out: &mut W,
     ) -> io::Result<()>
-        ensures answers { A.answers answerer.old (begun self.old.buffer.now self.old.len) answerer.new }
+        ensures answers { Answers A.answers answerer.old (begun self.old.buffer.now self.old.len) answerer.new result (W.contents out.old) (W.contents out.new) }
         ensures next { begun self.new.buffer.now self.new.len ≡ Some [] }
         ensures room { length self.new.buffer.now ≡ length self.old.buffer.now }
     {

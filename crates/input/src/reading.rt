@@ -1,23 +1,25 @@
 // Handing lines on as they come.
-ghost use Rattle.std.specs.Prelude.{◌≡◌, List, [], ℕ, length, OnOk, Some, None, Option};
-ghost use Rattle.input.specs.Lines.{begun, longer, Fed};
+ghost use Rattle.std.specs.Prelude.{◌≡◌, List, [], ℕ, ◌<◌, length, OnOk, Some, None, Option};
+ghost use Rattle.std.specs.Io.KnownBytes.{Appends, Consumes, IsAtEnd};
+ghost use Rattle.format.specs.Fields.{fields};
+ghost use Rattle.input.specs.Lines.{begun, longer, Fed, Answers, Answered, lines};
 
 use crate::begun::Line;
 use format::cuts::cut_at;
 use std::io;
-use std::io::{Read, Write};
+use std::io::{ErrorKind, Read, Write};
 
 // Who answers lines. Who answers and where it is written stay two parameters: any answerer writes to any writer.
 pub trait Answerer {
-    // what answering a line makes of it; None is a line that is too long to be kept
-    ghost answers: { Self → Option (List ℕ) → Self → Type 0 };
+    // what answering a line makes of it, and the bytes of the answer; None is a line that is too long to be kept
+    ghost answers: { Self → Option (List ℕ) → Self → List ℕ → Type 0 };
 
     fn answer<W: Write>(&mut self, line: &[u8], out: &mut W) -> io::Result<()>
-        ensures { answers self.old (Some line.now) self.new };
+        ensures { Answers answers self.old (Some line.now) self.new result (W.contents out.old) (W.contents out.new) };
 
     // Answers a line that is too long to be kept.
     fn refuse<W: Write>(&mut self, out: &mut W) -> io::Result<()>
-        ensures { answers self.old None self.new };
+        ensures { Answers answers self.old None self.new result (W.contents out.old) (W.contents out.new) };
 }
 
 impl Line<'_> {
@@ -28,7 +30,7 @@ impl Line<'_> {
         answerer: &mut A,
         out: &mut W,
     ) -> io::Result<()>
-        ensures answers { A.answers answerer.old (longer (length self.old.buffer.now) (begun self.old.buffer.now self.old.len) part.now) answerer.new }
+        ensures answers { Answers A.answers answerer.old (longer (length self.old.buffer.now) (begun self.old.buffer.now self.old.len) part.now) answerer.new result (W.contents out.old) (W.contents out.new) }
         ensures next { begun self.new.buffer.now self.new.len ≡ Some [] }
         ensures room { length self.new.buffer.now ≡ length self.old.buffer.now }
     {
@@ -46,7 +48,9 @@ impl Line<'_> {
         answerer: &mut A,
         out: &mut W,
     ) -> io::Result<()>
-        ensures fed { OnOk result (Fed A.answers (length self.old.buffer.now) answerer.old (begun self.old.buffer.now self.old.len) chunk.now answerer.new (begun self.new.buffer.now self.new.len)) }
+        ensures fed { OnOk result ((written : List ℕ)
+            × Fed A.answers (length self.old.buffer.now) answerer.old (begun self.old.buffer.now self.old.len) chunk.now answerer.new (begun self.new.buffer.now self.new.len) written
+            × Appends (W.contents out.old) (W.contents out.new) written) }
         ensures room { length self.new.buffer.now ≡ length self.old.buffer.now }
     {
         let mut cut = cut_at(chunk, b'\n');
@@ -67,19 +71,26 @@ pub fn serve<R: Read, A: Answerer, W: Write>(
     buffer: &mut [u8],
     answerer: &mut A,
     out: &mut W,
-) -> io::Result<()> {
+) -> io::Result<()>
+    // to the end, where there is room to read into
+    ensures end { OnOk result (0 < length chunk.old → IsAtEnd (R.remaining input.new)) }
+    ensures served { OnOk result ((read : List ℕ) × (written : List ℕ)
+        × Consumes (R.remaining input.old) (R.remaining input.new) read
+        × Answered A.answers answerer.old (lines (length buffer.old) (fields 10 read)) answerer.new written
+        × Appends (W.contents out.old) (W.contents out.new) written) }
+{
     let mut line = Line::new(buffer);
     // a count that no input reaches, since every loop has to have an end
     for _ in 0..u64::MAX {
         let n = input.read(chunk)?;
         if n == 0 {
-            break;
+            if line.len != Some(0) {
+                line.end(answerer, out)?;
+            }
+            return out.flush();
         }
         line.feed(&chunk[..n], answerer, out)?;
         out.flush()?;
     }
-    if line.len != Some(0) {
-        line.end(answerer, out)?;
-    }
-    out.flush()
+    Err(ErrorKind::TimedOut.into())
 }
