@@ -64,7 +64,7 @@ pub length_pairs : (bs : List ℕ) → length (pairs bs) ≡ 2 * length bs
 length_pairs [] = refl
 length_pairs (x ∷ bs) = omega (arith, length_pairs bs)
 
-hex_pairs : (bs : List ℕ) → AllByRecursion (λ b. b < 256) bs → AllByRecursion Hex (pairs bs)
+pub hex_pairs : (bs : List ℕ) → AllByRecursion (λ b. b < 256) bs → AllByRecursion Hex (pairs bs)
 hex_pairs [] h = tt
 hex_pairs (b ∷ bs) h = ((b / 16, omega (arith, h.0), refl), ((b % 16, omega arith, refl), hex_pairs bs h.1))
 

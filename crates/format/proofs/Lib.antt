@@ -8,3 +8,4 @@ mod Naming
 pub mod Ranges
 pub mod Valued
 pub mod Same
+pub mod Shown

@@ -18,7 +18,7 @@ signed_no_comma (pos n) h k lt e = decimal_no_comma n k (omega arith) lt e
 signed_no_comma (negsuc n) h zero lt e = omega arith
 signed_no_comma (negsuc n) h (suc k) lt e = decimal_no_comma (suc n) k (omega arith) (omega arith) e
 
-fields_at : (sep : ℕ) (xs ys : List ℕ) → ((k : ℕ) → k < length xs → get_or xs k 0 ≡ sep → ⊥) → fields sep (xs ++ (sep ∷ ys)) ≡ xs ∷ fields sep ys
+pub fields_at : (sep : ℕ) (xs ys : List ℕ) → ((k : ℕ) → k < length xs → get_or xs k 0 ≡ sep → ⊥) → fields sep (xs ++ (sep ∷ ys)) ≡ xs ∷ fields sep ys
 fields_at sep [] ys h = let e : eqb sep sep ≡ true = eq-eqb sep sep refl in rw e
 fields_at sep (x ∷ xs) ys h =
     let e : eqb x sep ≡ false = ne_eqb x sep (h 0 (omega arith)) in

@@ -11,7 +11,7 @@ last_line bs x n e =
     let f : eqb (length x) 0 ≡ false = ne_eqb (length x) 0 (λ z. n (ap length (one_field 10 bs x e) ∙ z)) in
     ap but_empty_last e ∙ rw f
 
-first_line : (bs x y : List ℕ) → fields 10 bs ≡ x ∷ fields 10 y → lines bs ≡ x ∷ lines y
+pub first_line : (bs x y : List ℕ) → fields 10 bs ≡ x ∷ fields 10 y → lines bs ≡ x ∷ lines y
 first_line bs x y e =
     let s = some_fields 10 y in
     ap but_empty_last (e ∙ ap (λ fs. x ∷ fs) s.are) ∙ ap (λ fs. x ∷ but_empty_last fs) (sym s.are)

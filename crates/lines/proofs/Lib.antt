@@ -3,3 +3,4 @@ mod Spelling
 mod Placed
 mod Told
 mod Judged
+mod Keeping

@@ -1,5 +1,5 @@
 -- The slot of a line, by its number.
-use Rattle.std.proofs.Common.{◌≡◌, ℕ, zero, suc, List, [], ◌∷◌, Some, None, Ok, Err, Option, ok_or, refl, ap, subst, length, arith}
+use Rattle.std.proofs.Common.{◌≡◌, ℕ, zero, suc, true, is_some, List, [], ◌∷◌, Some, None, Ok, Err, Option, ok_or, refl, ap, subst, length, arith}
 use Rattle.std.specs.List.{slice_get, AllByRecursion}
 use Rattle.fault.specs.declared.Fault.{Fault}
 use Rattle.fault.specs.declared.Fault.TheVariants.{Absent}
@@ -37,6 +37,10 @@ module _ (ls : List (List ℕ)) (values : AllByRecursion Valued ls) (i : ℕ) wh
   pub absent : None ≡ slice_get ls i → OnLine (slots_of ls values) i (Err Absent)
   absent e = (no_slot ls values i e, refl)
 
-  pub on_line : (line : List ℕ) (o : Option Line) → Some line ≡ slice_get ls i → Parts line o → OnLine (slots_of ls values) i (ok_or o Absent)
-  on_line line None e p = let s = a_slot ls values i line e in absurd (p (kind_in s.0) (written s.0) s.2.1)
-  on_line line (Some l) e p = let s = a_slot ls values i line e in (s.0, s.1, written_on line l s.0 p s.2)
+  -- it has parts, and they are of the slot's value
+  pub parts : (line : List ℕ) (o : Option Line) → Some line ≡ slice_get ls i → Parts line o → is_some o ≡ true
+  parts line None e p = let s = a_slot ls values i line e in absurd (p (kind_in s.0) (written s.0) s.2.1)
+  parts line (Some l) e p = refl
+
+  pub on_line : (line : List ℕ) (l : Line) → Some line ≡ slice_get ls i → Parts line (Some l) → OnLine (slots_of ls values) i (Ok l)
+  on_line line l e p = let s = a_slot ls values i line e in (s.0, s.1, written_on line l s.0 p s.2)

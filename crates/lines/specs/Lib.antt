@@ -3,6 +3,7 @@ pub mod Once
 pub mod Slots
 pub mod Formed
 pub mod Tested
+pub mod Kept
 pub mod Fronts
 pub mod Parts
 pub mod Shelved

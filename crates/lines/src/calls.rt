@@ -18,7 +18,8 @@ impl<'a> Lines<'a> {
         ensures { OnLine (lines_slots self.now) slot result }
     {
         let line = line_at(self.text, slot as usize).ok_or(Fault::Absent)?;
-        parted(line).ok_or(Fault::Absent)
+        // each line spells a value
+        Ok(parted(line).unwrap())
     }
 }
 

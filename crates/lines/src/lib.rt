@@ -6,6 +6,8 @@ pub mod cutting;
 pub mod line;
 pub mod lines;
 pub mod make;
+#[cfg(test)]
+mod tests;
 
 pub use lines::Lines;
 pub use make::{new_lines, test_lines};

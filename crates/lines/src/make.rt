@@ -2,6 +2,7 @@
 ghost use Rattle.lines.specs.Tested.{Tested, Built};
 ghost use Rattle.lines.specs.Shelved.{lines_slots};
 ghost use Rattle.lines.specs.Once.{SpellsOnce};
+ghost use Rattle.lines.specs.Kept.{KeepsWritten};
 
 use crate::cutting::{count_lines, cut_line};
 use crate::line::is_valued;
@@ -35,6 +36,7 @@ pub fn test_lines(bytes: &[u8]) -> Result<(), Refusal>
 pub fn new_lines(bytes: &[u8]) -> Lines
     ensures built { Built bytes.now (lines_slots result) }
     ensures once { SpellsOnce }
+    ensures kept { KeepsWritten bytes.now (lines_slots result) }
 {
     if test_lines(bytes).is_err() {
         return Lines { text: b"" };

@@ -1,9 +1,11 @@
 // Piles of shelves at a desk: calls on both sides of every seam, behind the last slot, and on sealed slots.
 #![tactic(auto)]
 
+mod behind;
 mod hold;
 mod wide;
 
+use behind::hold_lines;
 use desk::Call;
 use hold::hold;
 use layers::{Joined, Sealed};
@@ -141,6 +143,8 @@ fn main(rt: HostRuntime) -> io::Result<()> {
     hold_two(&rt)?;
     println!(rt; "four shelves:")?;
     hold_four(&rt)?;
+    println!(rt; "lines behind a table:")?;
+    hold_lines(&rt)?;
     println!(rt; "seventeen shelves:")?;
     hold_wide(&rt)
 }
