@@ -245,7 +245,7 @@ def telling_floats(r):
         (1e-200, 2e-200), (1e-200, -1e-130), (1e-200, -1e-120), (1000.0, 1000.0 + 2**-43), (25.3 + 0.1, 25.4), (0.0, -0.0), (e, -5e-324),
     ]  # fmt: skip
     specials = INFINITIES + NANS[:1]
-    for x, y in [(bits(a), bits(b)) for a, b in pairs] + [(s, t) for s in specials for t in specials + [bits(0.0), bits(1.0)]]:
+    for x, y in [(bits(a), bits(b)) for a, b in pairs] + [(s, t) for s in specials for t in specials + [bits(0.0), bits(-0.0), bits(1.0)]]:
         for op in SIX:
             yield case("apply", op, "float", x, "float", y)
             yield case("apply", op, "float", y, "float", x)
@@ -254,6 +254,7 @@ def telling_floats(r):
         for op in SIX + OPS[:5]:
             yield case("apply", op, "float", x, "float", bits(0.0))
             yield case("apply", op, "int", "0", "float", x)
+            yield case("apply", op, "float", x, "int", "0")
             yield case("apply", op, "float", x, "float", x)
         for op in OPS[:5]:
             yield case("assign", op + "=", "float", x, "int", "1")
