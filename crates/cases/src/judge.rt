@@ -12,7 +12,7 @@ use format::names::{assign_named, kind_named, op_named};
 use format::numbers::read_int;
 use format::values::read_value;
 use input::Answerer;
-use operators::{Call, FnAssign, FnBuiltin, apply};
+use operators::{FnAssign, FnBuiltin, Selectable, apply};
 use routines::{Limits, Made};
 use show::Shown;
 use std::io;
@@ -79,7 +79,7 @@ fn read_operand<'a>(
 }
 
 // The operator on two values; a new text goes into the buffer.
-fn operate<'a, R: Call>(
+fn operate<'a, R: Selectable>(
     op: Op,
     a: Value<&'a [u8]>,
     b: Value<&'a [u8]>,

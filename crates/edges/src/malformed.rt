@@ -1,8 +1,8 @@
 // Operands that are no values: a str that is not UTF-8, and a text of 65,537 bytes. They are refused before all else.
 use crate::trial::{Case, NONE, hold};
 use fault::Fault;
-use operators::{FnAssign, FnBuiltin};
-use routines::{Call, Limits};
+use operators::{FnAssign, FnBuiltin, Selectable};
+use routines::Limits;
 use std::process::Abort;
 use value::{Op, Value};
 
@@ -27,7 +27,7 @@ fn case<'a>(
 }
 
 // A malformed operand on the left, on the right and on both sides, of an operator with a row and of two without.
-fn refused<R: Call>(rt: &impl Abort, bad: Value<&[u8]>, good: Value<&[u8]>) {
+fn refused<R: Selectable>(rt: &impl Abort, bad: Value<&[u8]>, good: Value<&[u8]>) {
     for op in [Op::Plus, Op::Minus, Op::ExclusiveRange] {
         for limits in [NONE, SHORT] {
             hold::<R>(

@@ -1,8 +1,8 @@
 // Room in the buffer of APPLY: a new text that fits exactly, or is short of one byte, and the longest texts.
 use crate::trial::{AB, CD, Case, Given, NO_STR, NONE, hold_in, new_blob, new_str, plus};
 use fault::Fault;
-use operators::{FnAssign, FnBuiltin};
-use routines::{Call, Limits};
+use operators::{FnAssign, FnBuiltin, Selectable};
+use routines::Limits;
 use std::process::Abort;
 use value::{Op, Value};
 
@@ -12,7 +12,7 @@ const LEFT: Result<Given, Fault> = Ok(Given::Left);
 
 const SHORT: Result<Given, Fault> = Err(Fault::BufferShort);
 
-fn full_or_short<R: Call>(rt: &impl Abort) {
+fn full_or_short<R: Selectable>(rt: &impl Abort) {
     let fits = plus(AB, CD, NONE, new_str(4), b"abcd");
     let passes = plus(AB, CD, NONE, SHORT, b"");
     hold_in::<R>(rt, fits, &mut [0u8; 4], 0);
@@ -50,7 +50,7 @@ fn no_room_for_what_is_given_back(rt: HostRuntime) {
 }
 
 // A new text of 65,536 bytes, in a buffer with room for more, and one of a byte more.
-fn longest<R: Call>(rt: &impl Abort) {
+fn longest<R: Selectable>(rt: &impl Abort) {
     let left = [b'a'; 40000];
     let right = [b'a'; 25537];
     let mut buffer = [0u8; 70000];

@@ -1,7 +1,7 @@
 // What the tests of operators share: one case of APPLY, and the trial of it with every byte of the buffer.
 use fault::Fault;
-use operators::apply;
-use routines::{Call, Limits, Made};
+use operators::{Selectable, apply};
+use routines::{Limits, Made};
 use std::process::Abort;
 use text::Span;
 use value::{Op, Value};
@@ -108,7 +108,7 @@ pub fn begins(rt: &impl Abort, buffer: &[u8], wanted: &[u8], name: usize) {
 }
 
 // The case in a buffer, of which no other byte may change.
-pub fn hold_in<R: Call>(rt: &impl Abort, case: Case, buffer: &mut [u8], name: usize) {
+pub fn hold_in<R: Selectable>(rt: &impl Abort, case: Case, buffer: &mut [u8], name: usize) {
     buffer.fill(FILL);
     let answer = apply::<R>(case.op, case.left, case.right, case.limits, buffer);
     assert_eq!(rt; answer.map(made_given), case.gives, "case {name}");
@@ -116,7 +116,7 @@ pub fn hold_in<R: Call>(rt: &impl Abort, case: Case, buffer: &mut [u8], name: us
 }
 
 // Each case, in a buffer with room for more than it writes.
-pub fn hold<R: Call>(rt: &impl Abort, cases: &[Case]) {
+pub fn hold<R: Selectable>(rt: &impl Abort, cases: &[Case]) {
     for (name, case) in cases.iter().enumerate() {
         hold_in::<R>(rt, *case, &mut [0u8; 12], name);
     }
