@@ -30,6 +30,7 @@ PAIRS = [
     ("excl", "excl"), ("excl", "incl"), ("incl", "excl"), ("incl", "incl"),
 ]  # fmt: skip
 # Those that make a text, by + or +=.
+RANGED = [("int", "int"), ("int", "unit"), ("unit", "int")]
 TEXTS = [(j, k) for j, k in PAIRS if j in ("str", "char", "blob")] + [("unit", "str")]
 LEAST, GREATEST = -(2**63), 2**63 - 1
 EPSILON = 2.0**-52
@@ -226,11 +227,20 @@ def telling_rows(r):
         if form == "apply" and op in SIX:
             pairs = list(itertools.product(KINDS, KINDS))
         elif op in OPS[11:]:
-            pairs = r.sample(PAIRS, 4)
+            pairs = [(j, k) for j, k in RANGED if form == "apply"] + r.sample(PAIRS, 4)
         else:
             pairs = PAIRS + r.sample(others, 6)
         for j, k in pairs:
             yield case(form, op, j, some_value(j, r), k, some_value(k, r))
+    for op in ("&", "|", "^") + tuple(SIX):
+        for v, w in itertools.product(("false", "true"), repeat=2):
+            yield case("apply", op, "bool", v, "bool", w)
+            if op in ("&", "|", "^"):
+                yield case("assign", op + "=", "bool", v, "bool", w)
+    for k in ("str", "blob"):
+        for v, w in (("", ""), ("6162", "6162"), ("6162", "6163"), ("61", "6162"), ("6162", ""), ("c3a9", "c3aa")):
+            for op in SIX:
+                yield case("apply", op, k, v, k, w)
     for a, b in ((0, 5), (5, 0), (LEAST, GREATEST)):
         for j, k in itertools.product(("excl", "incl"), repeat=2):
             for op in ("==", "!="):

@@ -1,5 +1,5 @@
 // One operator, again and again. (An enum of tasks, and a loop of its own beside that of rules, where a closure for a turn would serve
-// both: it was tried, and a measured turn took a third more, since the loop is compiled apart from the operator.)
+// both: its call would be measured too. It was tried, and a turn took a third more.)
 use operators::{FnBuiltin, apply};
 use routines::{Limits, Made};
 use value::{Op, Value};

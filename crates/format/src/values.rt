@@ -1,6 +1,5 @@
 // Values of each kind.
-ghost use Rattle.std.specs.Prelude.{◌≡◌, true, to_bits};
-ghost use Rattle.std.specs.Float.{binary64};
+ghost use Rattle.std.specs.Prelude.{◌≡◌, true};
 ghost use Rattle.std.proofs.Math.Utf8.{encode, scalar};
 ghost use Rattle.format.specs.Reading.{Reads, ReadsAs, Number, ReadsEnds, ReadsEndsAs, ReadsText, ReadsValue, ReadsValueAs};
 ghost use Rattle.format.specs.Written.{floated};
@@ -22,17 +21,6 @@ pub fn read_float(bytes: &[u8]) -> Option<f64>
         return None;
     }
     Some(f64::from_bits(bits))
-}
-
-// The bits of a float, the same for every NaN; the library's `to_bits` takes none.
-pub fn float_bits(x: f64) -> u64
-    ensures { result ≡ to_bits binary64 x }
-{
-    if x.is_nan() {
-        0x7ff8_0000_0000_0000
-    } else {
-        x.to_bits()
-    }
 }
 
 // The char that the bytes are the UTF-8 of.

@@ -9,7 +9,8 @@ use format::cuts::cut_at;
 use std::io;
 use std::io::{ErrorKind, Read, Write};
 
-// Who answers lines. Who answers and where it is written stay two parameters: any answerer writes to any writer.
+// Who answers lines. (Who answers and where it is written stay two parameters: a struct of both would be made for `serve` only, and
+// taken apart in each call.)
 pub trait Answerer {
     // what answering a line makes of it, and the bytes of the answer; None is a line that is too long to be kept
     ghost answers: { Self → Option (List ℕ) → Self → List ℕ → Type 0 };

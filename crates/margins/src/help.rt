@@ -1,31 +1,23 @@
-// What `--help` prints.
+// What `--help` prints: one screen of 24 lines.
 
 pub const HELP: &str = "\
-margins [LIMITS]
+margins [LIMITS]  reads lines, each a call, and answers each with a line.
 
-Reads lines, each a call on slots and a rule, and answers each with a line.
-Fields are parted by tabs.
+post SLOT KIND VALUE      posts a value to a slot, 0 to 7; tabs part the fields
+clear                     makes the rule open and empty
+add put KIND VALUE        adds a step: puts a literal
+add slot SLOT             loads a slot
+add local LOCAL           loads a local, 0 to 7
+add keep LOCAL            keeps the top in a local
+add op OPERATOR           applies an operator to the two on top
+add set ASSIGNMENT LOCAL  assigns the top to a local
+check, run                passes the rule if it fits, and runs it
 
-  post SLOT KIND VALUE    posts a value to a slot, 0 to 7
-  clear                   makes the rule open and empty
-  add put KIND VALUE      adds a step: puts a literal
-  add slot SLOT           loads a slot
-  add local LOCAL         loads a local
-  add keep LOCAL          keeps the top in a local
-  add op OPERATOR         applies an operator to the two on top
-  add set ASSIGNMENT LOCAL  assigns the top to a local, by + and = and the like
-  check                   checks the rule, which is passed from then on
-  run                     runs the passed rule
-
-LIMITS is a file of lines KIND and VALUE: its first line is slot 8, the next
-slot 9, and so on. These slots take no posting.
-
-Kinds and values: unit (empty), bool (true, false), int (25), float (its 16
-hexadecimal digits), char, str and blob (two hexadecimal digits for each byte),
-excl and incl (two ints with a comma between).
+LIMITS is a file of lines KIND VALUE: slots from 8 on, which take no posting.
+Values by kind: unit (empty), bool (true), int (25), float (16 hexadecimal
+digits), char, str and blob (two digits a byte), excl and incl (0,10).
 Operators: + - * / % ** << >> & | ^ == != < <= > >= .. ..=
-Assignments: the first eleven, with = behind. Locals: 0 to 7.
-
+Assignments: the first eleven with = behind.
 Answers: ok, the KIND and VALUE of a run, or no, a number and a place:
  1 unknown name       6 overflow           11 no such line    22 rule is passed
  2 bad value or slot  7 divisor is zero    12 stack           23 rule is open

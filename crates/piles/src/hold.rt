@@ -10,8 +10,8 @@ use std::io;
 use text::Span;
 use value::{Value, lend};
 
-// An int as its number, a str as its text, and any other value as its kind. (No `Display`: a value's text is in the work buffer, which
-// the value does not hold.)
+// An int as its number, a str as its text, and any other value as its kind. (No `Display`: it would need a type of its own for
+// the value with its text, and is printed here only.)
 fn show_value(rt: &HostRuntime, value: Value<Span>, work: &[u8]) -> io::Result<()>
     requires { Inside (length work.now) (text_in value) }
 {

@@ -1,5 +1,5 @@
-// Which operation an operator stands for, of each sort. (Functions and no `TryFrom`: most of the operations are types of crates below
-// the operators, and an impl for them may stand in one of these only.)
+// Which operation an operator stands for, of each sort. (Functions and no `TryFrom`, which would be no plainer: that an operator is of
+// another sort is no error, and each use would drop one)
 ghost use Rattle.std.specs.Prelude.{◌≡◌};
 ghost use Rattle.rows.specs.Rows.{arithmetic_of, float_of, logic_of, comparison_of, equality_of, range_of};
 

@@ -5,8 +5,8 @@ ghost use Rattle.show.specs.Shown.{shown_value};
 
 use crate::digits::Pairs;
 use format::names::Named;
-use format::values::float_bits;
 use std::fmt;
+use std::num::f64_to_bits_with_nan;
 use value::Value;
 
 #[derive(Clone, Copy)]
@@ -21,7 +21,7 @@ impl fmt::Display for Shown<'_> {
             Value::Unit => Ok(()),
             Value::Bool(b) => write!(f, "{b}"),
             Value::Int(n) => write!(f, "{n}"),
-            Value::Float(x) => write!(f, "{:016x}", float_bits(x)),
+            Value::Float(x) => write!(f, "{:016x}", f64_to_bits_with_nan(x)),
             Value::Char(c) => {
                 let mut buffer = [0; 4];
                 write!(f, "{}", Pairs(c.encode_utf8(&mut buffer).as_bytes()))

@@ -63,8 +63,8 @@ fn lay(work: &mut [u8], fill: usize, piece: Piece)
     }
 }
 
-// Writes p and q behind each other at `fill`, above which neither lies, or refuses where they would pass the end. (Buffer and place are
-// two: the work buffer, which has both, is a thing of a later crate.)
+// Writes p and q behind each other at `fill`, above which neither lies, or refuses where they would pass the end. (Buffer and place stay
+// two: a struct of them would be made for the one call that there is.)
 pub fn join(work: &mut [u8], fill: usize, p: Piece, q: Piece) -> Result<Span, Fault>
     requires left { Below fill p }
     requires right { Below fill q }
