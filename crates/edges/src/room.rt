@@ -8,6 +8,8 @@ use value::{Op, Value};
 
 const C: Value<&[u8]> = Value::Char('c');
 
+const BYTES: Value<&[u8]> = Value::Blob(b"\xff\x00");
+
 const LEFT: Result<Given, Fault> = Ok(Given::Left);
 
 const SHORT: Result<Given, Fault> = Err(Fault::BufferShort);
@@ -21,6 +23,14 @@ fn full_or_short<R: Selectable>(rt: &impl Abort) {
     let passes = plus(AB, C, NONE, SHORT, b"");
     hold_in::<R>(rt, fits, &mut [0u8; 3], 2);
     hold_in::<R>(rt, passes, &mut [0u8; 2], 3);
+    let fits = plus(BYTES, BYTES, NONE, new_blob(4), b"\xff\x00\xff\x00");
+    let passes = plus(BYTES, BYTES, NONE, SHORT, b"");
+    hold_in::<R>(rt, fits, &mut [0u8; 4], 4);
+    hold_in::<R>(rt, passes, &mut [0u8; 3], 5);
+    let fits = plus(BYTES, C, NONE, new_blob(3), b"\xff\x00c");
+    let passes = plus(BYTES, C, NONE, SHORT, b"");
+    hold_in::<R>(rt, fits, &mut [0u8; 3], 6);
+    hold_in::<R>(rt, passes, &mut [0u8; 2], 7);
 }
 
 #[test]

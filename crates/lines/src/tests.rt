@@ -17,7 +17,7 @@ fn bad_line(place: usize) -> Result<(), Refusal> {
 
 #[test]
 fn bad_lines(rt: HostRuntime) {
-    let tries: [(&[u8], usize); 15] = [
+    let tries: [(&[u8], usize); 23] = [
         (b"", 0),
         (b"\n", 0),
         (b"unit", 0),
@@ -33,6 +33,14 @@ fn bad_lines(rt: HostRuntime) {
         (b"blob\tff\nstr\tff", 1),
         (b"float\t7ff8000000000000", 0),
         (b"float\t7ff0000000000000\nfloat\t7ff0000000000001", 1),
+        (b"bool\tTrue", 0),
+        (b"bool\t1", 0),
+        (b"char\t", 0),
+        (b"char\t6162", 0),
+        (b"char\teda080", 0),
+        (b"excl\t1", 0),
+        (b"incl\t1,", 0),
+        (b"incl\t1,2\nexcl\t1,02", 1),
     ];
     for (bytes, place) in tries {
         assert_eq!(rt; test_lines(bytes), bad_line(place));
@@ -154,6 +162,27 @@ fn told_texts(rt: HostRuntime) {
     assert!(rt; matches!(shelf.tell(5, &mut buffer, 6), Err(Fault::BufferShort)));
     assert!(rt; matches!(shelf.tell(9, &mut buffer, 6), Err(Fault::Absent)));
     assert_eq!(rt; buffer, [7, b'k', 0, 255, 127]);
+}
+
+// A text of no bytes needs no room, and still no place behind the buffer's end.
+#[test]
+fn told_empty_text(rt: HostRuntime) {
+    let mut shelf = new_lines(b"str\t");
+    let mut buffer = [7u8; 3];
+    assert!(rt;
+        matches!(
+            shelf.tell(0, &mut buffer, 3),
+            Ok(Value::Str(Span { start: 3, len: 0 }))
+        )
+    );
+    assert!(rt; matches!(shelf.tell(0, &mut buffer, 4), Err(Fault::BufferShort)));
+    assert!(rt;
+        matches!(
+            shelf.tell(0, &mut buffer, usize::MAX),
+            Err(Fault::BufferShort)
+        )
+    );
+    assert_eq!(rt; buffer, [7, 7, 7]);
 }
 
 #[test]

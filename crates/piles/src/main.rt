@@ -2,10 +2,12 @@
 #![tactic(auto)]
 
 mod behind;
+mod between;
 mod hold;
 mod wide;
 
 use behind::hold_lines;
+use between::hold_between;
 use desk::Call;
 use hold::hold;
 use layers::{Joined, Sealed};
@@ -145,6 +147,8 @@ fn main(rt: HostRuntime) -> io::Result<()> {
     hold_four(&rt)?;
     println!(rt; "lines behind a table:")?;
     hold_lines(&rt)?;
+    println!(rt; "lines between tables:")?;
+    hold_between(&rt)?;
     println!(rt; "seventeen shelves:")?;
     hold_wide(&rt)
 }
