@@ -1,19 +1,20 @@
 -- The tolerance over counts: the rounded quotient of two floats is at most 2 ^ -52 exactly where 2 ^ 52 of the first are at
 -- most the second. Two floats have at most 53 digits, so a quotient above 2 ^ -52 is above the middle to the next float.
-use Rattle.std.proofs.Common.{◌≡◌, ℕ, zero, suc, ◌+◌, ◌-◌, ◌*◌, ◌%◌, ◌^◌, ◌<◌, ◌≤◌, Bool, true, false, cond, ◌&&◌, ◌||◌, T, eqb, ltb, leb, ◌⊎◌, ℤ, pos, negsuc, sym, refl, ap, ◌∙◌, subst, inl, inr, le_trans, le_of_eq, lt_of_le_of_lt, lt_irrefl, mul-le-mul_right, mul_assoc, mul_comm, lt_of_mul-lt-mul_right, mul-pos, one-mul, zero-mul, mul-one, mul_right_comm, arith, lit<, lit≤, eqb→eq, ltb→lt, leb→le, pow_pos, pow-add}
+use Rattle.std.proofs.Common.{◌≡◌, ℕ, zero, suc, ◌+◌, ◌-◌, ◌*◌, ◌%◌, ◌^◌, ◌<◌, ◌≤◌, Bool, true, false, cond, not, ◌&&◌, ◌||◌, T, eqb, ltb, leb, ◌⊎◌, ℤ, pos, negsuc, sym, refl, ap, ◌∙◌, subst, inl, inr, le_trans, le_of_eq, lt_of_le_of_lt, lt_of_lt_of_le, lt_irrefl, mul-le-mul_right, mul_assoc, mul_comm, lt_of_mul-lt-mul_right, mul-pos, one-mul, zero-mul, mul-one, mul_right_comm, arith, lit<, lit≤, eqb→eq, ltb→lt, leb→le, pow_pos, pow-add}
 use lib.Dec.{eqb-suc-zero}
 use lib.Pow.{pow-lt}
-use lib.Ieee.{Float, nan, inf, fin, binary64, sub, mul, div, le, eq, fits, round, up, down, is_nan, unlike, level}
+use lib.Ieee.{Float, nan, inf, fin, binary64, neg, add, sum, sub, mul, div, lt, le, eq, fits, round, up, down, is_nan, unlike, level, below}
 use lib.Ieee.Fits.{up_pos, down_pos, and_l, and_r, sub-fits}
 use lib.Ieee.Order.{round_mono}
 use lib.Ieee.Positive.{first_pos, positive, between, le_trans_positive}
 use lib.Ieee.Scale.{round_same}
 use Rattle.std.specs.Float.{float_is_finite, float_is_infinite, float_with_sign, float_max, float_zero as zero-float}
-use Rattle.std.proofs.lemmas.Bool.{true≢false, false≢true, cases_lt}
+use Rattle.std.proofs.lemmas.Bool.{true≢false, false≢true, cases_lt, ltb-false}
 use Rattle.order.specs.declared.traits.Order.TheVariants.{Equal}
-use Rattle.float.specs.Tolerance.{by_float, by_ieee, unscaled, divisor, close, size, epsilon}
-use Rattle.float.specs.Exactly.{count, Exact}
-use Rattle.float.specs.Exchange.{unscaled_exchange}
+use Rattle.order.specs.Orders.{ranked, order_number}
+use Rattle.float.specs.Tolerance.{by_float, by_ieee, unscaled, divisor, close, size, epsilon, difference}
+use Rattle.float.specs.Exactly.{count, Within, Exact}
+use Rattle.float.specs.Exchange.{unscaled_exchange, round_size}
 
 -- ---- what a float that fits has: few digits, and no exponent below the lowest
 pub record Fine (m : ℕ) (e : ℤ) : Type 0 where
@@ -224,6 +225,48 @@ far (fin s m e) v f D h =
     ])
     (subst (λ w. T (le (div binary64 (fin false m e) w) epsilon)) D.is t))
 
+-- ---- of two that IEEE's order calls equal neither is below the other, and their difference is a zero
+neither : (a b : Bool) → ranked a b ≡ Equal → (a ≡ false) × (b ≡ false)
+neither true b h = absurd (omega (arith, ap order_number h))
+neither false true h = absurd (omega (arith, ap order_number h))
+neither false false h = (refl, refl)
+
+rounds_to_zero : (s : Bool) (n c : ℕ) → 0 < c → n ≡ 0 → size (round binary64 s n c) ≡ fin false 0 (pos 0)
+rounds_to_zero s n c h p = round_size binary64 s n c ∙ ap (λ v. round binary64 false v c) p ∙ round_zero false c h
+
+no_gap :
+    (s t : Bool) (a b c : ℕ) → 0 < c → ltb a b ≡ false → ltb b a ≡ false
+    → size (cond (ltb a b) (round binary64 t (b - a) c) (round binary64 s (a - b) c)) ≡ fin false 0 (pos 0)
+no_gap s t a b c h p q = rw p (rounds_to_zero s (a - b) c h (omega (arith, ltb-false b a q)))
+
+no_sum :
+    (s : Bool) (a : ℕ) (t : Bool) (b c : ℕ) → 0 < c → below s a t b ≡ false → below t b s a ≡ false
+    → size (sum binary64 s a (not t) b c) ≡ fin false 0 (pos 0)
+unfolding sum
+no_sum true a true b c h p q = no_gap _ _ a b c h q p
+no_sum true a false b c h p q = rounds_to_zero true (a + b) c h (omega (arith, ltb-false 0 (a + b) p))
+no_sum false a true b c h p q = rounds_to_zero false (a + b) c h (omega (arith, ltb-false 0 (b + a) q))
+no_sum false a false b c h p q = no_gap _ _ a b c h p q
+
+no_difference :
+    (s : Bool) (m : ℕ) (e : ℤ) (t : Bool) (n : ℕ) (d : ℤ) → by_ieee (fin s m e) (fin t n d) ≡ Equal
+    → difference (fin s m e) (fin t n d) ≡ fin false 0 (pos 0)
+unfolding sub add neg lt
+no_difference s m e t n d h =
+    let w = neither _ _ h in
+    no_sum s (m * up e * down d) t (n * up d * down e) (down e * down d) (mul-pos (down_pos e) (down_pos d)) w.0 w.1
+
+zero_near : (z : Float) (M : ℕ) → z ≡ fin false 0 (pos 0) → (float_is_finite z ≡ true) × (count z * 2 ^ 52 ≤ M)
+unfolding float_is_finite
+zero_near z M h =
+    (rw h refl, rw h (le_trans (le_of_eq (ap (λ v. v * 2 ^ 52) (zero-mul (2 ^ 1074)) ∙ zero-mul (2 ^ 52))) (omega arith)))
+
+-- it is within or it is not: a test of a bool and of two counts
+within_or_not : (b : Bool) (p q : ℕ) → ((b ≡ true) × (p ≤ q)) ⊎ (((b ≡ true) × (p ≤ q)) → ⊥)
+within_or_not false p q = inr (λ w. false≢true w.0)
+within_or_not true p q = elim (cases_lt q p) [ inl l ↦ inr (λ w. lt_irrefl q (lt_of_lt_of_le l w.1)) | inr g ↦ inl (refl, g) ]
+
+-- ---- all three of the tolerance
 pub exact : (x y : Float) → T (fits binary64 x) → T (fits binary64 y) → Exact x y (by_float x y)
 unfolding float_is_finite is_nan float_is_infinite
 exact nan y f g p q = absurd (false≢true p)
@@ -235,5 +278,13 @@ exact (fin s m e) (fin t n d) f g p q =
     let y = fin t n d in
     let D = divisor_of s m e t n d (fine s m e f) (fine t n d g) _ refl in
     let z = sub binary64 x y in
+    let r = difference x y in
     let answer : (b : Bool) → close x y ≡ b → cond (close x y) Equal (by_ieee x y) ≡ cond b Equal (by_ieee x y) = λ b e. ap (λ v. cond v Equal (by_ieee x y)) e in
-    (λ w. answer true (near z (divisor x y) (sub-fits binary64 x y) D w.0 w.1), λ w. answer false (far z (divisor x y) (sub-fits binary64 x y) D w))
+    let apart : (Within x y → ⊥) → cond (close x y) Equal (by_ieee x y) ≡ by_ieee x y =
+    λ w. answer false (far z (divisor x y) (sub-fits binary64 x y) D w) in
+    let only : cond (close x y) Equal (by_ieee x y) ≡ Equal → Within x y =
+    λ h. elim (within_or_not (float_is_finite r) (count r * 2 ^ 52) (count (divisor x y))) [
+      | inl w ↦ w
+      | inr w ↦ zero_near r (count (divisor x y)) (no_difference s m e t n d (sym (apart w) ∙ h))
+    ] in
+    (λ w. answer true (near z (divisor x y) (sub-fits binary64 x y) D w.0 w.1), apart, only)

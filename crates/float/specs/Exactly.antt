@@ -18,8 +18,11 @@ count (fin s m (negsuc k)) = m * 2 ^ (1074 - suc k)
 abbrev pub Within : Float → Float → Type 0
 Within x y = (float_is_finite (difference x y) ≡ true) × (count (difference x y) * 2 ^ 52 ≤ count (divisor x y))
 
+-- equal within the tolerance and only there; else IEEE's order stands
 abbrev pub Exact : Float → Float → Order → Type 0
-Exact x y r = float_is_finite x ≡ true → float_is_finite y ≡ true → (Within x y → r ≡ Equal) × ((Within x y → ⊥) → r ≡ by_ieee x y)
+Exact x y r =
+    float_is_finite x ≡ true → float_is_finite y ≡ true
+    → (Within x y → r ≡ Equal) × ((Within x y → ⊥) → r ≡ by_ieee x y) × (r ≡ Equal → Within x y)
 
 -- The product of two floats counts the product of their counts, over 2 ^ 1074. It is rounded to zero where that is at most a
 -- half, since zero is even; and then the divisor is 1.
