@@ -10,11 +10,14 @@
                                           original's, or the one that a departure fixes (docs/DIFFERENCES.md), which is counted
                                           under that departure. Any other answer is printed. MARKED, where given, is written: for
                                           each case the original's answer and, where ours has to be another, why, and which.
+    tools/cases.py calls PROGRAM CASES ORIGINAL
+                                          asks PROGRAM, c/calls.c with the C functions, for each pair of kinds and each pair of floats
+                                          among the cases, and holds what it gives against the answers required of them
 
 A case is `apply|assign TAB operator TAB kind TAB value TAB kind TAB value TAB string limit TAB blob limit`. Files are read byte by
 byte (as latin-1), since a damaged line may have any.
 """
-import itertools, math, operator, random, re, struct, sys
+import itertools, math, operator, random, re, struct, subprocess, sys
 
 KINDS = ["unit", "bool", "int", "float", "char", "str", "blob", "excl", "incl"]
 OPS = ["+", "-", "*", "/", "%", "**", "<<", ">>", "&", "|", "^", "==", "!=", "<", "<=", ">", ">=", "..", "..="]
@@ -518,6 +521,48 @@ def compare(cases, original, ours, marked=None):
     return 1 if bad else 0
 
 
+# which comparisons hold at each order: less, equal, greater, unordered
+HOLD = [{"!=", "<", "<="}, {"==", "<=", ">="}, {"!=", ">", ">="}, {"!="}]
+
+
+def calls(cases, original):
+    """the calls of the C functions that the cases stand for, each with what the required answers of these cases say of it"""
+    asked = {}
+    for line, theirs in zip(*(open(name, encoding="latin-1", newline="\n") for name in (cases, original)), strict=True):
+        line, theirs = line.removesuffix("\n"), translated(theirs.removesuffix("\n"))
+        if unreadable(line):
+            continue
+        form, op, j, v, k, w, _, _ = line.split("\t")
+        answer = required(line, theirs)[0]
+        if answer != "no\t2":
+            number = OPS.index(op if form == "apply" or op in OPS[11:] else op.removesuffix("="))
+            call = "%s %d %d %d" % ("select" if form == "apply" else "assign", number, KINDS.index(j), KINDS.index(k))
+            asked.setdefault(call, set()).add(answer.partition("\t")[0] if not answer.startswith("no") else answer)
+        if form == "apply" and op in SIX and (j, k) == ("float", "float"):
+            asked.setdefault("compare %s %s" % (v, w), set()).add((op, answer))
+    return asked
+
+
+def fits(call, number, said):
+    """whether a number that a C function gave is what the answers say"""
+    if call.startswith("compare"):
+        return 0 <= number <= 3 and all(answer == truth(op in HOLD[number]) for op, answer in said)
+    if "no\t5" in said:
+        return number == -5 and len(said) == 1
+    return number >= 0 and all(answer.startswith("no") or number >> KINDS.index(answer) & 1 for answer in said)
+
+
+def compare_calls(program, cases, original):
+    asked = calls(cases, original)
+    given = subprocess.run([program], input="".join(call + "\n" for call in asked), stdout=subprocess.PIPE, text=True, check=True).stdout.split()
+    wrong = [(call, n, said) for (call, said), n in zip(asked.items(), given, strict=True) if not fits(call, int(n), said)]
+    for call, n, said in wrong[:20]:
+        print("%s\n  gives %s\n  cases: %s" % (call, n, sorted(said)))
+    compared = sum(call.startswith("compare") for call in asked)
+    print("through C: %d selections and %d comparisons, %d that the cases contradict" % (len(asked) - compared, compared, len(wrong)))
+    return 1 if wrong else 0
+
+
 if __name__ == "__main__":
     args = sys.argv[1:]
     sys.stdout.reconfigure(encoding="latin-1", newline="\n")
@@ -529,5 +574,7 @@ if __name__ == "__main__":
             print(line)
     elif args[:1] == ["compare"] and len(args) in (4, 5):
         sys.exit(compare(*args[1:]))
+    elif args[:1] == ["calls"] and len(args) == 4:
+        sys.exit(compare_calls(*args[1:]))
     else:
         sys.exit(__doc__)
