@@ -83,10 +83,7 @@ int main(void) {
     static struct value result;
     char *line = NULL;
     size_t size = 0;
-    ssize_t len;
-    while ((len = getline(&line, &size, stdin)) > 0) {
-        if (line[len - 1] == '\n')
-            line[len - 1] = '\0';
+    while (next_line(&line, &size)) {
         int fault = answer(line, &result);
         if (fault != 0)
             printf("no\t%d\n", fault);

@@ -27,6 +27,16 @@ struct value {
     unsigned char text[MOST];
 };
 
+/* Reads the next line of the standard input, without its line feed. */
+static bool next_line(char **line, size_t *size) {
+    ssize_t len = getline(line, size, stdin);
+    if (len <= 0)
+        return false;
+    if ((*line)[len - 1] == '\n')
+        (*line)[len - 1] = '\0';
+    return true;
+}
+
 /* Cuts the line at its tabs, in place, and gives the number of fields; more than `most` are not told apart. */
 static size_t split(char *line, char **fields, size_t most) {
     size_t n = 0;

@@ -48,10 +48,7 @@ static void answer(char *line) {
 int main(void) {
     char *line = NULL;
     size_t size = 0;
-    ssize_t len;
-    while ((len = getline(&line, &size, stdin)) > 0) {
-        if (line[len - 1] == '\n')
-            line[len - 1] = '\0';
+    while (next_line(&line, &size)) {
         answer(line);
     }
     free(line);

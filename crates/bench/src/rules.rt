@@ -19,7 +19,7 @@ fn margin<'a>() -> Value<&'a [u8]> {
     Value::Int(25)
 }
 
-pub fn repeat(count: u32, work: &mut [u8]) -> u64 {
+pub(crate) fn repeat(count: u32, work: &mut [u8]) -> u64 {
     let mut records = [Record { value: Value::Unit }; 2];
     let mut texts = [0u8; 32];
     let mut table = new_table(&mut records, &mut texts, 16);

@@ -14,7 +14,7 @@ pub enum Task {
 
 pub const NONE: Limits = Limits { string: 0, blob: 0 };
 
-pub fn name(task: Task) -> &'static str {
+pub(crate) fn name(task: Task) -> &'static str {
     match task {
         Task::AddInts => "int + int",
         Task::PowerInts => "int ** int",
@@ -71,7 +71,7 @@ fn once(task: Task, i: u32, text: &[u8], buffer: &mut [u8]) -> u64 {
     .map_or(0, weight)
 }
 
-pub fn repeat(task: Task, count: u32, buffer: &mut [u8]) -> u64 {
+pub(crate) fn repeat(task: Task, count: u32, buffer: &mut [u8]) -> u64 {
     let mut sum = 0u64;
     for i in 0..count {
         sum = sum.wrapping_add(once(task, i, b"Fig. 12", buffer));

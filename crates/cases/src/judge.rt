@@ -121,7 +121,7 @@ fn give<'a>(
 }
 
 impl Judge {
-    pub fn new() -> Self {
+    pub(crate) fn new() -> Self {
         Judge {
             left: [0; MOST_BYTES],
             right: [0; MOST_BYTES],

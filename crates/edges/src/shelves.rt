@@ -36,7 +36,7 @@ fn tells<S: Shelf>(
 }
 
 // Every call that names the slot is refused 3. Of TELL that comes before room, and of POST behind a malformed value alone.
-pub fn is_absent<S: Shelf>(rt: &impl Abort, shelf: &mut S, slot: u32) {
+pub(crate) fn is_absent<S: Shelf>(rt: &impl Abort, shelf: &mut S, slot: u32) {
     let absent = Err(Fault::Absent);
     assert_eq!(rt; shelf.kind(slot), Err(Fault::Absent));
     assert_eq!(rt; shelf.capacity(slot), Err(Fault::Absent));

@@ -33,7 +33,7 @@ pub enum Given {
     Other,
 }
 
-pub fn as_given(value: Value<Span>) -> Given {
+pub(crate) fn as_given(value: Value<Span>) -> Given {
     match value {
         Value::Unit => Given::Unit,
         Value::Bool(answer) => Given::Bool(answer),
@@ -54,19 +54,19 @@ fn made_given(made: Made) -> Given {
 }
 
 // A new text at the front of the buffer.
-pub fn new_str(len: usize) -> Result<Given, Fault> {
+pub(crate) fn new_str(len: usize) -> Result<Given, Fault> {
     Ok(str_at(0, len))
 }
 
-pub fn new_blob(len: usize) -> Result<Given, Fault> {
+pub(crate) fn new_blob(len: usize) -> Result<Given, Fault> {
     Ok(blob_at(0, len))
 }
 
-pub fn str_at(start: usize, len: usize) -> Given {
+pub(crate) fn str_at(start: usize, len: usize) -> Given {
     Given::Str(Span { start, len })
 }
 
-pub fn blob_at(start: usize, len: usize) -> Given {
+pub(crate) fn blob_at(start: usize, len: usize) -> Given {
     Given::Blob(Span { start, len })
 }
 
@@ -82,7 +82,7 @@ pub struct Case<'a> {
 }
 
 // The case of a `+` or a `+=`.
-pub fn plus<'a>(
+pub(crate) fn plus<'a>(
     left: Value<&'a [u8]>,
     right: Value<&'a [u8]>,
     limits: Limits,
@@ -100,7 +100,7 @@ pub fn plus<'a>(
 }
 
 // The buffer begins with these bytes, and all others are as they were.
-pub fn begins(rt: &impl Abort, buffer: &[u8], wanted: &[u8], name: usize) {
+pub(crate) fn begins(rt: &impl Abort, buffer: &[u8], wanted: &[u8], name: usize) {
     for (place, byte) in buffer.iter().enumerate() {
         let wanted = wanted.get(place).copied().unwrap_or(FILL);
         assert_eq!(rt; *byte, wanted, "case {name}, byte {place}");
@@ -108,7 +108,7 @@ pub fn begins(rt: &impl Abort, buffer: &[u8], wanted: &[u8], name: usize) {
 }
 
 // The case in a buffer, of which no other byte may change.
-pub fn hold_in<R: Selectable>(rt: &impl Abort, case: Case, buffer: &mut [u8], name: usize) {
+pub(crate) fn hold_in<R: Selectable>(rt: &impl Abort, case: Case, buffer: &mut [u8], name: usize) {
     buffer.fill(FILL);
     let answer = apply::<R>(case.op, case.left, case.right, case.limits, buffer);
     assert_eq!(rt; answer.map(made_given), case.gives, "case {name}");
@@ -116,7 +116,7 @@ pub fn hold_in<R: Selectable>(rt: &impl Abort, case: Case, buffer: &mut [u8], na
 }
 
 // Each case, in a buffer with room for more than it writes.
-pub fn hold<R: Selectable>(rt: &impl Abort, cases: &[Case]) {
+pub(crate) fn hold<R: Selectable>(rt: &impl Abort, cases: &[Case]) {
     for (name, case) in cases.iter().enumerate() {
         hold_in::<R>(rt, *case, &mut [0u8; 12], name);
     }

@@ -13,7 +13,7 @@ use value::{Op, Value};
 const LINES: &[u8] = b"str\t206b67\nfloat\t4039800000000000\nint\t40";
 
 // Two open slots, and three lines behind them: slots 2, 3 and 4.
-pub fn hold_lines(rt: &HostRuntime) -> io::Result<()> {
+pub(crate) fn hold_lines(rt: &HostRuntime) -> io::Result<()> {
     let mut records = [BLANK; 2];
     let mut texts = [0u8; 8];
     let table = new_table(&mut records, &mut texts, 4);

@@ -97,7 +97,7 @@ fn hold_halves<P: Shelf + Drop, Q: Shelf + Drop>(
 }
 
 // A table and sealed lines are joined, and lines and a table.
-pub fn hold_between(rt: &HostRuntime) -> io::Result<()> {
+pub(crate) fn hold_between(rt: &HostRuntime) -> io::Result<()> {
     let mut a = [BLANK; 2];
     let mut d = [BLANK; 2];
     let mut a_texts = [0u8; 8];

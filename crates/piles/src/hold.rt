@@ -39,7 +39,7 @@ fn show(rt: &HostRuntime, answer: Result<Reply, Refusal>, work: &[u8]) -> io::Re
     }
 }
 
-pub fn hold<S: Shelf + Drop>(rt: &HostRuntime, pile: S, calls: &[Call]) -> io::Result<()> {
+pub(crate) fn hold<S: Shelf + Drop>(rt: &HostRuntime, pile: S, calls: &[Call]) -> io::Result<()> {
     let mut work = [0u8; 64];
     let mut desk = Desk::new(pile);
     for call in calls {

@@ -76,7 +76,7 @@ fn hold_shared<'a, S: Share<'a> + Drop>(
 type Two<S> = Joined<S, S>;
 
 // Sixteen tables with 65,535 slots, and one with three.
-pub fn hold_wide(rt: &HostRuntime) -> io::Result<()> {
+pub(crate) fn hold_wide(rt: &HostRuntime) -> io::Result<()> {
     let mut many = vec![in rt.alloc(); BLANK; 65535]?;
     let mut few = [BLANK; 3];
     hold_shared::<Two<Two<Two<Two<Table>>>>>(rt, &mut many, &mut few)
