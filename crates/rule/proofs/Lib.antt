@@ -1,4 +1,5 @@
 mod Gathers
 mod Fresh
+mod Adding
 pub mod Loads
 mod Parts

@@ -1,4 +1,3 @@
-pub mod Kept
 pub mod Sets
 pub mod Check
 pub mod Run

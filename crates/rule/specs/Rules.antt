@@ -1,5 +1,5 @@
 -- The four calls on a rule, by its steps and by what it keeps once it is passed: CLEAR, ADD, CHECK and RUN. Assumes nothing.
-use Rattle.std.specs.Prelude.{ℕ, cond, List, [], ◌∷◌, ◌++◌, length, Some, None, Ok, Err, Option, Result, nat_lt}
+use Rattle.std.specs.Prelude.{ℕ, cond, List, [], ◌∷◌, ◌++◌, length, take, Some, None, Ok, Err, Option, Result, nat_lt}
 use Rattle.fault.specs.Outcomes.{Outcome}
 use Rattle.fault.specs.Refusals.{refusal, bind, unless}
 use Rattle.fault.specs.declared.Fault.{Fault}
@@ -67,9 +67,9 @@ ran l env xs (Some k) work = cond (fresh env xs k.kinds) (walked l env xs work) 
 
 -- ---- the code's rule
 
-abbrev pub kept_by : State → Option Kept
-kept_by Open = None
-kept_by (Passed ks a) = Some (keeping ks.items a)
+abbrev pub kept_by : ℕ → State → Option Kept
+kept_by n Open = None
+kept_by n (Passed ks a) = Some (keeping (take n ks) a)
 
 abbrev pub rule_of : Rule → Sheet
-rule_of r = sheet r.steps.items (kept_by r.state)
+rule_of r = sheet (take r.count r.steps) (kept_by r.count r.state)

@@ -1,5 +1,5 @@
 // The calls on a rule.
-ghost use Rattle.std.specs.Prelude.{◌≡◌, ◌≤◌, length};
+ghost use Rattle.std.specs.Prelude.{◌≡◌, length, take};
 ghost use Rattle.shelf.specs.Slots.{holding};
 ghost use Rattle.rule.specs.Run.{Ends};
 ghost use Rattle.rule.specs.Rules.{blank, rule_of, adds, added, checks, passed, ran};
@@ -7,7 +7,6 @@ ghost use Rattle.rule.specs.Rules.{blank, rule_of, adds, added, checks, passed, 
 use crate::checking::{check_steps, is_fresh, kinds_at};
 use crate::rule::{Rule, State};
 use crate::running::run_steps;
-use arrayvec::ArrayVec;
 use fault::{Fault, Refusal};
 use routines::Limits;
 use shelf::Shelf;
@@ -21,7 +20,8 @@ impl Rule {
         ensures { rule_of result ≡ blank }
     {
         Rule {
-            steps: ArrayVec::new(),
+            steps: [Step::Put(Value::Unit); 128],
+            count: 0,
             state: State::Open,
         }
     }
@@ -29,7 +29,7 @@ impl Rule {
     pub fn clear(&mut self)
         ensures { rule_of self.new ≡ blank }
     {
-        self.steps.clear();
+        self.count = 0;
         self.state = State::Open;
     }
 
@@ -40,16 +40,23 @@ impl Rule {
         step.test()?;
         match self.state {
             State::Passed { .. } => Err(Fault::RulePassed),
-            State::Open => self.steps.try_push(step).map_err(|_| Fault::RuleFull),
+            State::Open => {
+                if self.count >= 128 {
+                    return Err(Fault::RuleFull);
+                }
+                self.steps[self.count] = step;
+                self.count += 1;
+                Ok(())
+            }
         }
     }
 
     fn taken(&self) -> Taken<'_>
-        ensures list { result.list.now ≡ self.now.steps.items }
-        ensures few { length result.list.now ≤ 128 }
+        ensures list { result.list.now ≡ take self.now.count self.now.steps }
+        ensures count { length result.list.now ≡ self.now.count }
     {
         Taken {
-            list: self.steps.as_slice(),
+            list: &self.steps[..self.count],
         }
     }
 
@@ -78,7 +85,7 @@ impl Rule {
             State::Open => Err(Fault::NotPassed.into()),
             State::Passed { kinds, .. } => {
                 let steps = self.taken();
-                if !is_fresh(steps.list, kinds.as_slice(), shelf) {
+                if !is_fresh(steps.list, &kinds[..self.count], shelf) {
                     return Err(Fault::Outdated.into());
                 }
                 run_steps(steps, shelf, limits, work)

@@ -1,10 +1,9 @@
 // A check: the walk over sets of kinds, and the kinds at the loads.
-ghost use Rattle.std.specs.Prelude.{◌≡◌, ◌≤◌, length};
+ghost use Rattle.std.specs.Prelude.{◌≡◌, ◌≤◌, length, take};
 ghost use Rattle.shelf.specs.Slots.{holding};
 ghost use Rattle.rule.specs.Check.{sets, checked, kind_at, kinds_at, fresh};
 
 use crate::sets::select_sets;
-use arrayvec::ArrayVec;
 use fault::{Fault, Refusal};
 use operators::{FnAssign, FnBuiltin};
 use shelf::Shelf;
@@ -79,13 +78,13 @@ fn kind_at<S: Shelf>(step: Step, shelf: &S) -> Option<Kind>
     }
 }
 
-pub(crate) fn kinds_at<S: Shelf>(steps: &[Step], shelf: &S) -> ArrayVec<Option<Kind>, 128>
+pub(crate) fn kinds_at<S: Shelf>(steps: &[Step], shelf: &S) -> [Option<Kind>; 128]
     requires { length steps.now ≤ 128 }
-    ensures { result.items ≡ kinds_at (holding (S.slots shelf.now)) steps.now }
+    ensures { take (length steps.now) result ≡ kinds_at (holding (S.slots shelf.now)) steps.now }
 {
-    let mut kinds = ArrayVec::new();
-    for step in steps {
-        kinds.push(kind_at(*step, shelf));
+    let mut kinds = [None; 128];
+    for (i, step) in steps.iter().enumerate() {
+        kinds[i] = kind_at(*step, shelf);
     }
     kinds
 }

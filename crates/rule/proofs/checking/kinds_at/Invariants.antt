@@ -1,7 +1,7 @@
-use Rattle.std.proofs.Common.{◌≡◌, take}
+use Rattle.std.proofs.Common.{◌≡◌, length, take}
 use Rattle.shelf.specs.Slots.{holding}
 use Rattle.rule.specs.Check.{kinds_at}
 use Rattle.rule.proofs.checking.kinds_at.Given as goal
 
-abbrev pub invariant-loop-step : goal.invariant-loop-step
-invariant-loop-step g l = l.kinds.items ≡ kinds_at (holding (g.S.Shelf.slots l.shelf)) (take l.step-index l.steps)
+abbrev pub invariant-loop-i : goal.invariant-loop-i
+invariant-loop-i g l = (length l.kinds ≡ 128) × (take l.i l.kinds ≡ kinds_at (holding (g.S.Shelf.slots l.shelf)) (take l.i l.steps))

@@ -1,21 +1,28 @@
-use Rattle.std.proofs.Common.{◌≡◌, true, List, [], ◌∷◌, ◌++◌, is_ok, Ok, Err, Result, OnOk, OnErr, sym, refl, ap, ◌∙◌}
-use Rattle.std.proofs.lemmas.Bool.{and_parts, and_from}
-use Rattle.steps.specs.Steps.{takes, all_taken}
-use Rattle.steps.specs.declared.step.Step.{Step}
-use Rattle.arrayvec.specs.ArrayVec.{ArrayVec}
+use Rattle.std.proofs.Common.{◌+◌, ◌<◌, take, set, sym, ap, ◌∙◌, arith}
+use Rattle.std.proofs.lemmas.List.{length-set}
+use Rattle.rule.specs.Rules.{kept_by, sheet, adds, added}
+use Rattle.rule.proofs.Adding.{taken_more, add_ok, added_ok}
 use Rattle.rule.proofs.rule.Rule.add.Goals as goal
 
-taken_push : (xs : List Step) (x : Step) → all_taken xs ≡ true → takes x ≡ Ok tt → all_taken (xs ++ x ∷ []) ≡ true
-taken_push [] x h t = and_from _ _ (ap is_ok t) refl
-taken_push (y ∷ xs) x h t =
-    let p = and_parts (is_ok (takes y)) (all_taken xs) h in
-    and_from _ _ p.0 (taken_push xs x p.1 t)
-
-after_push : {A E : Type 0} (r : Result A E) (v w : ArrayVec Step) (x : Step) → OnOk r (w.items ≡ v.items ++ x ∷ []) → OnErr r (w ≡ v) → all_taken v.items ≡ true → takes x ≡ Ok tt → all_taken w.items ≡ true
-after_push (Ok a) v w x o e h t = ap all_taken o ∙ taken_push v.items x h t
-after_push (Err f) v w x o e h t = ap (λ v. all_taken v.items) e ∙ h
-
-pub invariant_of-self-clause-taken : goal.invariant_of-self-clause-taken
-invariant_of-self-clause-taken c =
+pub invariant_of-self : goal.invariant_of-self
+invariant_of-self c =
     let r = c.args.self.now in
-    after_push c.try_push.result r.steps c.try_push.new.self c.args.step c.try_push.ensures.ok c.try_push.ensures.err r.taken (sym c.test.ensures ∙ c.in_ok-test.was)
+    let lt : r.count < 128 = omega (arith, c.if-self-ge128.false) in
+    let t = sym c.test.ensures ∙ c.in_ok-test.was in
+    record {
+      few = omega arith;
+      size = length-set r.steps r.count c.args.step ∙ r.size;
+      taken = taken_more r.steps r.count c.args.step r.size lt t r.taken;
+    }
+
+pub returns-else-self-ge128 : goal.returns-else-self-ge128
+returns-else-self-ge128 c =
+    let r = c.args.self.now in
+    let n = r.count in
+    let lt : n < 128 = omega (arith, c.if-self-ge128.false) in
+    let t = sym c.test.ensures ∙ c.in_ok-test.was in
+    let none = ap (λ s. sheet (take n r.steps) (kept_by n s)) c.in-Open.is in
+    record {
+      answer = sym (ap (λ s. adds s c.args.step) none ∙ add_ok r.steps n c.args.step r.size lt t);
+      after = ap (λ s. sheet (take (n + 1) (set r.steps n c.args.step)) (kept_by (n + 1) s)) c.in-Open.is ∙ added_ok r.steps n c.args.step r.size lt t ∙ ap (λ s. added s c.args.step) (sym none);
+    }
