@@ -11,6 +11,8 @@ pub struct Cut<'a> {
     pub rest: Option<&'a [u8]>,
 }
 
+// Inlined: most fields are short, and a call takes longer than they do.
+#[inline(always)]
 pub fn cut_at<'a>(bytes: &'a [u8], separator: u8) -> Cut<'a>
     ensures { fields separator bytes.now ≡ result.first.now ∷ fields_of separator result.rest }
 {

@@ -47,7 +47,8 @@ fn read_set(op: &[u8], local: &[u8], buffer: &Scratch) -> Result<Command, Fault>
     Ok(Command::Add(Step::Assign { op, local }))
 }
 
-// What a line asks for. A posted text is put into the front of the buffer.
+// What a line asks for. A posted text is put into the front of the buffer. (Inlined, for a program with two makes of shelf.)
+#[inline(always)]
 pub(crate) fn read_line(line: &[u8], buffer: &mut Scratch) -> Result<Command, Fault>
     ensures asks { Asks (line_form line.now) (asked_by buffer.new result) }
     ensures inside { InsideIfOk buffer.new result }

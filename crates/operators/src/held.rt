@@ -46,7 +46,8 @@ fn pick(made: Made, a: Value<Span>, b: Value<Span>) -> Value<Span>
     }
 }
 
-// The operator on two values of the run.
+// The operator on two values of the run. (Inlined, as `operate` is: a program with two makes of shelf has two walks that call it.)
+#[inline(always)]
 pub fn apply_held<R: Selectable>(
     op: Op,
     a: Value<Span>,

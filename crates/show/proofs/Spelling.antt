@@ -8,11 +8,10 @@ use Rattle.std.specs.declared.fmt.Error.{Error}
 use Rattle.std.proofs.lemmas.Bool.{eqb-true}
 use Rattle.std.proofs.lemmas.List.{take_more}
 use lib.Ieee.{Float, binary64, to_bits}
-use Rattle.value.specs.Values.{kind_of, meaning}
+use Rattle.value.specs.Values.{meaning}
 use Rattle.value.specs.declared.value.Value.{Value}
 use Rattle.value.specs.declared.value.Value.TheVariants as value
 use Rattle.show.specs.Shown.{shown_value}
-use Rattle.format.specs.Names.{kind_name}
 use Rattle.format.specs.Written.{figure, figures, pairs}
 use Rattle.format.proofs.Hex.{pairs_push}
 
@@ -78,7 +77,5 @@ pub hex_word : (n : ℕ) → n < 2 ^ 64 → padded_integral (format_spec 32 0 4 
 hex_word n small = padded_is (digits 16 false n) ∙ digits_are n small
 
 -- a float, behind its kind's name
-pub float_shown : (v : Value (Bor (List ℕ))) (x : Float) (name : List ℕ) (n : ℕ) → v ≡ value.Float x → name ≡ kind_name (kind_of v) → n ≡ to_bits binary64 x → (name ++ 9 ∷ []) ++ figures 16 n ≡ shown_value (meaning (λ t. t.now) v)
-float_shown v x name n e q b =
-    let p : name ≡ codes "float" = q ∙ ap (λ w. kind_name (kind_of w)) e in
-    (λ i. (p i ++ 9 ∷ []) ++ figures 16 (b i)) ∙ sym (ap (λ w. shown_value (meaning (λ t. t.now) w)) e)
+pub float_shown : (v : Value (Bor (List ℕ))) (x : Float) (n : ℕ) → v ≡ value.Float x → n ≡ to_bits binary64 x → codes "float\t" ++ figures 16 n ≡ shown_value (meaning (λ t. t.now) v)
+float_shown v x n e b = ap (λ m. codes "float\t" ++ figures 16 m) b ∙ sym (ap (λ w. shown_value (meaning (λ t. t.now) w)) e)
