@@ -11,6 +11,7 @@ use layers::Joined;
 use lines::{new_lines, test_lines};
 use shelf::Shelf;
 use show::Answer;
+use std::env::{Args, Env, FillError};
 use std::io::BufWriter;
 use std::process::ExitCode;
 use std::{env, fs, io};
@@ -54,11 +55,19 @@ fn answer_behind<S: Shelf + Drop>(rt: &HostRuntime, shelf: S, path: &str) -> io:
     answer_lines(rt, Joined::new(shelf, new_lines(&limits)))
 }
 
+// The program's name and the words behind it. The name, which may be any bytes, is read only where there is a word.
+fn read_words(rt: &HostRuntime) -> io::Result<Args> {
+    if matches!(rt.arg(1, &mut []), Err(FillError::NotPresent)) {
+        return Ok(Vec::new(rt.alloc()).into_iter());
+    }
+    env::args(rt)
+}
+
 fn main(rt: HostRuntime) -> io::Result<ExitCode> {
     let mut records = [Record { value: Value::Unit }; SLOTS];
     let mut texts = [0u8; TEXTS];
     let table = new_table(&mut records, &mut texts, CAPACITY);
-    let mut words = env::args(&rt)?;
+    let mut words = read_words(&rt)?;
     let Some(word) = words.nth(1) else {
         return answer_lines(&rt, table);
     };
