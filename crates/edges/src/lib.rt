@@ -11,6 +11,8 @@ mod room;
 #[cfg(test)]
 mod runs;
 #[cfg(test)]
+mod session;
+#[cfg(test)]
 mod shelves;
 #[cfg(test)]
 mod tables;

@@ -1,5 +1,5 @@
 // Operands that are no values: a str that is not UTF-8, and a text of 65,537 bytes. They are refused before all else.
-use crate::trial::{Case, NONE, hold};
+use crate::trial::{Case, Given, NONE, hold};
 use fault::Fault;
 use operators::{FnAssign, FnBuiltin, Selectable};
 use routines::Limits;
@@ -48,6 +48,29 @@ fn refused<R: Selectable>(rt: &impl Abort, bad: Value<&[u8]>, good: Value<&[u8]>
 fn refused_by_both(rt: &impl Abort, bad: Value<&[u8]>, good: Value<&[u8]>) {
     refused::<FnBuiltin>(rt, bad, good);
     refused::<FnAssign>(rt, bad, good);
+}
+
+// Comparing asks no less of its operands than `+` does: the longest text is taken, and one of a byte more is refused.
+#[test]
+fn overlong_operand(rt: HostRuntime) {
+    let text = [b'a'; 65537];
+    let short = Value::Blob(&text[..1]);
+    let longest = Case {
+        op: Op::EqualsTo,
+        left: Value::Blob(&text[..65536]),
+        right: short,
+        limits: NONE,
+        gives: Ok(Given::Bool(false)),
+        writes: b"",
+    };
+    let overlong = case(
+        Op::EqualsTo,
+        Value::Blob(&text),
+        short,
+        NONE,
+        Fault::Malformed,
+    );
+    hold::<FnBuiltin>(&rt, &[longest, overlong]);
 }
 
 #[test]

@@ -39,6 +39,13 @@ fn buffer_exactly_full_or_one_short(rt: HostRuntime) {
     full_or_short::<FnAssign>(&rt);
 }
 
+// Of a buffer with more room, the rest stays.
+#[test]
+fn rest_of_the_buffer_stays(rt: HostRuntime) {
+    let case = plus(AB, C, NONE, new_str(3), b"abc");
+    hold_in::<FnAssign>(&rt, case, &mut [0u8; 6], 0);
+}
+
 // The limit of size is tested before room.
 #[test]
 fn limit_before_buffer(rt: HostRuntime) {
